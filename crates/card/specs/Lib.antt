@@ -1,0 +1,5 @@
+pub mod Sets
+pub mod Cards
+pub mod Profiles
+pub mod Refusals
+pub mod Numbers

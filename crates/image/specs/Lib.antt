@@ -1,0 +1,4 @@
+pub mod Numbers
+pub mod Images
+pub mod Checks
+pub mod Counts

@@ -1,0 +1,13 @@
+use mathlib.Core.Path.{_≡_}
+use Prim.Native.Nat.{_-_}
+use Rattle.source.proofs.ReadingOn.{So-far}
+use Rattle.source.proofs.whole.read_on.Given as given
+
+abbrev pub Inv-loop-have : given.InvT-loop-have
+Inv-loop-have g l =
+    let m = g .S·Source in
+    (m .files (l .source) ≡ m .files (l .entry .source))
+    × So-far (m .files (l .entry .source) (l .file)) (m .lost (l .entry .source)) (m .lost (l .source)) (l .have) (l .entry .buffer) (l .buffer)
+
+abbrev pub μ-loop-have : given.MeasureT-loop-have
+μ-loop-have g l = 32767 - l .have

@@ -1,0 +1,43 @@
+-- What reading a whole file may answer.
+use mathlib.Core.Path.{_≡_}
+use mathlib.Core.Bool.{Bool, true, false}
+use mathlib.Core.List.{List}
+use Prim.Native.Nat.{ℕ, _≤_, _<_}
+use lib.ListN.{length, take}
+use Rattle.std.specs.declared.option.Option.{Option}
+use Rattle.std.specs.declared.option.Option.the-variants.{None, Some}
+use Rattle.std.specs.declared.result.Result.{Result}
+use Rattle.std.specs.declared.result.Result.the-variants.{Ok, Err}
+use Rattle.card.specs.Cards.{content}
+use Rattle.card.specs.Refusals.{Demands, Under, no-other, value}
+use Rattle.source.specs.Numbers.{of-whole}
+use Rattle.source.specs.Reads.{laid}
+use Rattle.source.specs.declared.read.Answer.{Answer}
+use Rattle.source.specs.declared.read.Answer.the-variants.{Absent, Bytes}
+use Rattle.source.specs.declared.whole.WholeRefusal.{WholeRefusal}
+
+-- a file of a card, and a buffer that the longest file fits into
+abbrev pub Ready : ℕ → List ℕ → Type 0
+Ready file buffer = (file ≤ 17) × (32767 ≤ length buffer)
+
+-- the buffer then starts with the file, and is otherwise as it was
+abbrev pub Holds : Option (List ℕ) → List ℕ → List ℕ → Answer → Type 0
+Holds None before after Absent = after ≡ before
+Holds None before after (Bytes count) = ⊥
+Holds (Some bs) before after Absent = ⊥
+Holds (Some bs) before after (Bytes count) = (count ≡ length bs) × (after ≡ laid bs before)
+
+-- how many bytes were received before the link was lost: the source's choice, but for this
+pub record Received (bs : List ℕ) (lost lost′ : Bool) (count : ℕ) : Type 0 where
+  pub within : count ≤ length bs
+  pub unfinished : count < 32767
+  pub lost-now : lost′ ≡ true
+  pub lost-before : lost ≡ true → count ≡ 0
+
+-- The outcome of reading a whole file, with whether the link is lost and the buffer, both before and after. The bytes
+-- received before a refusal stand at the buffer's start.
+abbrev pub Wholly : Option (List ℕ) → Bool → Bool → ℕ → List ℕ → List ℕ → Result Answer WholeRefusal → Type 0
+Wholly bs lost lost′ file before after (Err refusal) =
+    Demands 2 (file ≤ 17) (Demands 3 (32767 ≤ length before) (Under 6 (Received (content bs) lost lost′) no-other)) (of-whole refusal)
+    × (after ≡ laid (take (value (of-whole refusal)) (content bs)) before)
+Wholly bs lost lost′ file before after (Ok answer) = Ready file before × (lost ≡ false) × Holds bs before after answer

@@ -2,7 +2,7 @@
 -- file 17 is EF.SOD.
 use mathlib.Core.List.{List, [], _∷_}
 use Prim.Native.Nat.{ℕ, _≤_}
-use lib.ListN.{length}
+use lib.ListN.{length, getD}
 use Rattle.std.specs.declared.option.Option.{Option}
 use Rattle.std.specs.declared.option.Option.the-variants.{None, Some}
 
@@ -24,3 +24,7 @@ content (Some bs) = bs
 abbrev pub template-tags : List ℕ
 template-tags =
     0x60 ∷ 0x61 ∷ 0x75 ∷ 0x63 ∷ 0x76 ∷ 0x65 ∷ 0x66 ∷ 0x67 ∷ 0x68 ∷ 0x69 ∷ 0x6a ∷ 0x6b ∷ 0x6c ∷ 0x6d ∷ 0x6e ∷ 0x6f ∷ 0x70 ∷ 0x77 ∷ []
+
+-- the template tag of a file
+abbrev pub template-tag : ℕ → ℕ
+template-tag file = getD template-tags file 0

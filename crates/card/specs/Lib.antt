@@ -3,3 +3,4 @@ pub mod Cards
 pub mod Profiles
 pub mod Refusals
 pub mod Numbers
+pub mod Lines

@@ -2,9 +2,8 @@
 //! Nothing here looks into a file.
 ghost use mathlib.Core.Path.{_≡_};
 ghost use Prim.Native.Nat.{_≤_, _<_};
-ghost use lib.ListN.{getD};
 ghost use Rattle.std.specs.Options.{Cases as BySome};
-ghost use Rattle.card.specs.Cards.{template-tags};
+ghost use Rattle.card.specs.Cards.{template-tag};
 
 /// The file number of EF.COM, the lowest.
 pub const EF_COM: u8 = 0;
@@ -39,7 +38,7 @@ pub const TEMPLATE_TAGS: [u8; 18] = [
 
 /// The template tag of a file; `None` exactly if there is no file of this number.
 pub fn template_tag(file: u8) -> Option<u8>
-    ensures { λ r. ⌜ BySome r (17 < file) (λ tag. (file ≤ 17) × (tag ≡ getD template-tags file 0)) ⌝ }
+    ensures { λ r. ⌜ BySome r (17 < file) (λ tag. (file ≤ 17) × (tag ≡ template-tag file)) ⌝ }
 {
     if file > EF_SOD {
         return None;

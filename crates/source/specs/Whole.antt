@@ -2,7 +2,7 @@
 use mathlib.Core.Path.{_≡_}
 use mathlib.Core.Bool.{Bool, true, false}
 use mathlib.Core.List.{List}
-use Prim.Native.Nat.{ℕ, _≤_, _<_}
+use Prim.Native.Nat.{ℕ, _+_, _-_, _≤_, _<_, min}
 use lib.ListN.{length, take}
 use Rattle.std.specs.declared.option.Option.{Option}
 use Rattle.std.specs.declared.option.Option.the-variants.{None, Some}
@@ -41,3 +41,11 @@ Wholly bs lost lost′ file before after (Err refusal) =
     Demands 2 (file ≤ 17) (Demands 3 (32767 ≤ length before) (Under 6 (Received (content bs) lost lost′) no-other)) (of-whole refusal)
     × (after ≡ laid (take (value (of-whole refusal)) (content bs)) before)
 Wholly bs lost lost′ file before after (Ok answer) = Ready file before × (lost ≡ false) × Holds bs before after answer
+
+-- The reads that are made of a file of which so many bytes are there, and what they make of a source: each wants the
+-- smaller of 255 and what is missing to 32,767, the next one stands behind the bytes of the one before, and none is made
+-- once 32,767 bytes are there.
+pub data Reads-on {S : Type 0} (steps : S → ℕ → ℕ → ℕ → S → Type 0) (file : ℕ) : ℕ → S → S → Type 0 where
+  full : {s : S} → Reads-on steps file 32767 s s
+  last : {have : ℕ} {s t : S} → have < 32767 → steps s file have (min (32767 - have) 255) t → Reads-on steps file have s t
+  next : {have : ℕ} {s t u : S} (count : ℕ) → have < 32767 → 0 < count → steps s file have (min (32767 - have) 255) t → Reads-on steps file (have + count) t u → Reads-on steps file have s u

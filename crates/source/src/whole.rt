@@ -4,7 +4,7 @@ ghost use mathlib.Core.Path.{_≡_};
 ghost use mathlib.Core.Bool.{true};
 ghost use Prim.Native.Nat.{ℕ, _≤_};
 ghost use lib.ListN.{length};
-ghost use Rattle.source.specs.Whole.{Ready, Wholly};
+ghost use Rattle.source.specs.Whole.{Ready, Wholly, Reads-on};
 ghost use Rattle.source.specs.Numbers.{of-whole};
 use crate::read::Answer;
 use crate::read::Fault;
@@ -54,6 +54,7 @@ pub fn read_whole<S: Source>(
     ensures files { λ _. ⌜ files (now (source .exit)) ≡ files (now (source .entry)) ⌝ }
     ensures lasts { λ _. ⌜ (lost (now (source .entry)) ≡ true → lost (now (source .exit)) ≡ true) ⌝ }
     ensures wholly { λ r. ⌜ Wholly (files (now (source .entry)) file) (lost (now (source .entry))) (lost (now (source .exit))) file (now (buffer .entry)) (now (buffer .exit)) r ⌝ }
+    ensures reads { λ _. ⌜ (Ready file (now (buffer .entry)) → Reads-on steps file 0 (now (source .entry)) (now (source .exit))) ⌝ }
     ensures still { λ _. ⌜ ((Ready file (now (buffer .entry)) → ⊥) → now (source .exit) ≡ now (source .entry)) ⌝ }
 {
     if file > EF_SOD {
@@ -71,6 +72,7 @@ fn read_on<S: Source>(source: &mut S, file: u8, buffer: &mut [u8]) -> Result<Ans
     ensures files { λ _. ⌜ files (now (source .exit)) ≡ files (now (source .entry)) ⌝ }
     ensures lasts { λ _. ⌜ (lost (now (source .entry)) ≡ true → lost (now (source .exit)) ≡ true) ⌝ }
     ensures wholly { λ r. ⌜ Wholly (files (now (source .entry)) file) (lost (now (source .entry))) (lost (now (source .exit))) file (now (buffer .entry)) (now (buffer .exit)) r ⌝ }
+    ensures reads { λ _. ⌜ Reads-on steps file 0 (now (source .entry)) (now (source .exit)) ⌝ }
 {
     let mut have: u16 = 0;
     while have < LONGEST {

@@ -1,0 +1,4 @@
+pub mod Templates
+pub mod Structures
+pub mod Groups
+pub mod Files

@@ -1,0 +1,4 @@
+mod Exactly
+mod Rows
+mod Groupings
+mod Risings

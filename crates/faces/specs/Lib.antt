@@ -1,0 +1,5 @@
+pub mod Deciding
+pub mod Rows
+pub mod Groups
+pub mod Rising
+pub mod Faces

@@ -1,0 +1,4 @@
+pub mod Objects
+pub mod Trees
+pub mod Reading
+pub mod Readers

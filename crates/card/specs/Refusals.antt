@@ -21,10 +21,10 @@ valued n v = record { number = n; values = v ∷ [] }
 abbrev pub value : Refusal → ℕ
 value r = getD (r .values) 0 0
 
--- What a call demands, in the order in which it looks: the refusal has this number only if the demand is not met, and a
--- later number only if it is.
-abbrev pub Demands : ℕ → Type 0 → (Refusal → Type 0) → Refusal → Type 0
-Demands n P later r = When (eqb n (r .number)) (P → ⊥) (P × later r)
+-- What a call asks for, in the order in which it looks: it is refused with this number unless P holds, so the refusal has
+-- this number only if P does not hold, and a later number only if it does.
+abbrev pub Unless : ℕ → Type 0 → (Refusal → Type 0) → Refusal → Type 0
+Unless n P later r = When (eqb n (r .number)) (P → ⊥) (P × later r)
 
 -- the refusal has this number only under this condition on its value
 abbrev pub Under : ℕ → (ℕ → Type 0) → (Refusal → Type 0) → Refusal → Type 0

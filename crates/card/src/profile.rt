@@ -5,7 +5,7 @@ ghost use Prim.Native.Nat.{ℕ, _<_};
 ghost use Rattle.std.specs.Results.{Cases};
 ghost use Rattle.card.specs.Sets.{has};
 ghost use Rattle.card.specs.Profiles.{Lawful, required};
-ghost use Rattle.card.specs.Refusals.{Demands, no-other};
+ghost use Rattle.card.specs.Refusals.{Unless, no-other};
 ghost use Rattle.card.specs.Numbers.{of-profile};
 use crate::files::EF_COM;
 use crate::files::EF_SOD;
@@ -25,7 +25,7 @@ pub struct Profile {
 impl Profile {
     /// The profile of a kind and a declared set, whose bit 0 is DG1 and bit 15 is DG16.
     pub fn new(kind: u8, declared: u16) -> Result<Profile, ProfileRefusal>
-        ensures { λ r. ⌜ Cases r (λ p. Lawful kind declared × (p .kind ≡ kind) × (p .declared ≡ declared)) (λ e. Demands 1 (Lawful kind declared) no-other (of-profile e)) ⌝ }
+        ensures { λ r. ⌜ Cases r (λ p. Lawful kind declared × (p .kind ≡ kind) × (p .declared ≡ declared)) (λ e. Unless 1 (Lawful kind declared) no-other (of-profile e)) ⌝ }
     {
         if kind == 0 || kind > LAST_KIND || !has_bit(declared, 0) || !has_bit(declared, 1) {
             return Err(ProfileRefusal::Unlawful);

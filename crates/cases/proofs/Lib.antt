@@ -1,3 +1,4 @@
 pub mod Templates
 pub mod Structures
 pub mod Tags
+pub mod Worked

@@ -1,4 +1,4 @@
--- The lines of EF.COM and DG2, which every profile requires: cases 1 to 3, then their own.
+-- The lines of EF.COM, DG1 and DG2, which every profile requires: cases 1 to 3, then their own.
 use mathlib.Core.Path.{_≡_}
 use mathlib.Core.Bool.{true}
 use mathlib.Core.List.{List}
@@ -10,6 +10,9 @@ use Rattle.common.specs.Lines.{Common-lines}
 use Rattle.common.specs.declared.lines.CommonLines.{CommonLines}
 use Rattle.faces.specs.Faces.{Face-lines}
 use Rattle.faces.specs.declared.lines.FaceLines.{FaceLines}
+use Rattle.zone.specs.Layouts.{layout-of}
+use Rattle.zone.specs.Lines.{Zone-lines, blocked-lines}
+use Rattle.zone.specs.declared.lines.ZoneLines.{ZoneLines}
 use Rattle.cases.specs.Structures.{Structured}
 use Rattle.cases.specs.declared.structure.Structure.{Structure}
 
@@ -32,3 +35,10 @@ Face-own faces place value = Face-lines place value (faces .group) (faces .entri
 
 abbrev pub Face-file : Option (List ℕ) → Structure → FaceLines → Type 0
 Face-file content lines faces = Structured (template-tag 2) content true lines (Face-own faces) (faces ≡ faces-blocked)
+
+-- cases 9 to 20 over the template's value, which stands at a place
+abbrev pub Zone-own : ℕ → ZoneLines → ℕ → List ℕ → Type 0
+Zone-own kind zone place value = Zone-lines kind place value zone
+
+abbrev pub Zone-file : ℕ → Option (List ℕ) → Structure → ZoneLines → Type 0
+Zone-file kind content lines zone = Structured (template-tag 1) content true lines (Zone-own kind zone) (zone ≡ blocked-lines (layout-of kind))

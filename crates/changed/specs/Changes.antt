@@ -12,7 +12,7 @@ use Rattle.std.specs.declared.option.Option.the-variants.{None, Some}
 use Rattle.std.specs.declared.result.Result.{Result}
 use Rattle.std.specs.declared.result.Result.the-variants.{Ok, Err}
 use Rattle.card.specs.Cards.{Files, Short}
-use Rattle.card.specs.Refusals.{Demands, no-other}
+use Rattle.card.specs.Refusals.{Unless, no-other}
 use Rattle.changed.specs.Numbers.{of-change}
 use Rattle.changed.specs.declared.change.Change.{Change}
 use Rattle.changed.specs.declared.change.Change.the-variants.{Remove, Set}
@@ -43,7 +43,7 @@ laid-on cs files file = cond (removed cs file) None (mapped (with-settings cs fi
 -- the changes before and after one more, of which a source takes sixteen
 abbrev pub Adds : Change → ℕ → List Change → List Change → Result (Unit {0}) ChangeRefusal → Type 0
 Adds c count cs ds (Ok u) = (count < 16) × (ds ≡ cs ++ (c ∷ []))
-Adds c count cs ds (Err e) = Demands 9 (count < 16) no-other (of-change e)
+Adds c count cs ds (Err e) = Unless 9 (count < 16) no-other (of-change e)
 
 -- changes make no file longer
 setting-short : (b d : Bool) (bytes : List ℕ) (at byte : ℕ) → length bytes ≤ 32767 → length (cond b (cond d (set bytes at byte) bytes) bytes) ≤ 32767

@@ -5,6 +5,7 @@ use cases::CommonFileLines;
 use cases::FaceFileLines;
 use cases::SecurityLines;
 use cases::Structure;
+use cases::ZoneFileLines;
 use std::io;
 
 /// Cases 1 to 3.
@@ -25,6 +26,36 @@ pub fn print_common(rt: &LibcRuntime, lines: CommonFileLines) -> io::Result<()> 
             own.unicode,
             own.tags,
             own.declared,
+        ],
+    )
+}
+
+/// DG1: cases 1 to 3 and 9 to 20.
+pub fn print_zone(rt: &LibcRuntime, lines: ZoneFileLines) -> io::Result<()> {
+    print_structure(rt, lines.structure)?;
+    let own = lines.zone;
+    print_cases(
+        rt,
+        9,
+        &[
+            own.zone,
+            own.characters,
+            own.code,
+            own.issuer,
+            own.name,
+            own.number,
+        ],
+    )?;
+    print_cases(
+        rt,
+        15,
+        &[
+            own.nationality,
+            own.birth,
+            own.sex,
+            own.expiry,
+            own.optional,
+            own.composite,
         ],
     )
 }

@@ -59,7 +59,7 @@ pub refuted : {n p q : ℕ} {xs : List ℕ} → First n p xs q → Nowhere-tiled
 refuted f = record { first = f; not-tiled = λ t. sound (f .is-broken) t }
 
 -- a broken object starts in the range
-low : {n p q : ℕ} {xs : List ℕ} → Broken n p xs q → p ≤ q
+pub low : {n p q : ℕ} {xs : List ℕ} → Broken n p xs q → p ≤ q
 low (here l w) = omega arith
 low (inside t v r b s k) = omega (arith, low k)
 low (later t v r b k) = omega (arith, low k)

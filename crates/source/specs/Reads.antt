@@ -8,7 +8,7 @@ use Rattle.std.specs.declared.option.Option.{Option}
 use Rattle.std.specs.declared.option.Option.the-variants.{None, Some}
 use Rattle.std.specs.declared.result.Result.{Result}
 use Rattle.std.specs.declared.result.Result.the-variants.{Ok, Err}
-use Rattle.card.specs.Refusals.{Demands, Under, no-other}
+use Rattle.card.specs.Refusals.{Unless, Under, no-other}
 use Rattle.source.specs.Numbers.{of-fault}
 use Rattle.source.specs.declared.read.Answer.{Answer}
 use Rattle.source.specs.declared.read.Answer.the-variants.{Absent, Bytes}
@@ -45,6 +45,6 @@ Answers file place wanted before after (Bytes count) = Brings file place wanted 
 -- buffer. Over a lost link every well-formed read is refused, and a link that is the reason for a refusal is lost.
 abbrev pub Reads : Option (List ℕ) → Bool → Bool → ℕ → ℕ → ℕ → List ℕ → List ℕ → Result Answer Fault → Type 0
 Reads bs lost lost′ file place wanted before after (Err fault) =
-    Demands 7 (Well-formed file wanted before) (Under 6 (λ _. lost′ ≡ true) no-other) (of-fault fault) × (after ≡ before)
+    Unless 7 (Well-formed file wanted before) (Under 6 (λ _. lost′ ≡ true) no-other) (of-fault fault) × (after ≡ before)
 Reads bs lost lost′ file place wanted before after (Ok answer) =
     Well-formed file wanted before × (lost ≡ false) × Answers bs place wanted before after answer

@@ -9,7 +9,7 @@ use Rattle.std.specs.declared.option.Option.the-variants.{None, Some}
 use Rattle.std.specs.declared.result.Result.{Result}
 use Rattle.std.specs.declared.result.Result.the-variants.{Ok, Err}
 use Rattle.card.specs.Cards.{content}
-use Rattle.card.specs.Refusals.{Demands, Under, no-other, value}
+use Rattle.card.specs.Refusals.{Unless, Under, no-other, value}
 use Rattle.source.specs.Numbers.{of-whole}
 use Rattle.source.specs.Reads.{laid}
 use Rattle.source.specs.declared.read.Answer.{Answer}
@@ -38,7 +38,7 @@ pub record Received (bs : List ℕ) (lost lost′ : Bool) (count : ℕ) : Type 0
 -- received before a refusal stand at the buffer's start.
 abbrev pub Wholly : Option (List ℕ) → Bool → Bool → ℕ → List ℕ → List ℕ → Result Answer WholeRefusal → Type 0
 Wholly bs lost lost′ file before after (Err refusal) =
-    Demands 2 (file ≤ 17) (Demands 3 (32767 ≤ length before) (Under 6 (Received (content bs) lost lost′) no-other)) (of-whole refusal)
+    Unless 2 (file ≤ 17) (Unless 3 (32767 ≤ length before) (Under 6 (Received (content bs) lost lost′) no-other)) (of-whole refusal)
     × (after ≡ laid (take (value (of-whole refusal)) (content bs)) before)
 Wholly bs lost lost′ file before after (Ok answer) = Ready file before × (lost ≡ false) × Holds bs before after answer
 

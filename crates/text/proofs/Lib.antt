@@ -1,0 +1,2 @@
+pub mod Weights
+mod Pairs

@@ -1,0 +1,4 @@
+pub mod Characters
+pub mod Digits
+pub mod Dates
+pub mod Names

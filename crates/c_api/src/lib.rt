@@ -1,4 +1,6 @@
 //! The door for other languages: calls on numbers and slices, exported for C. `include/suhluva.h` declares them.
+#![tactic(auto)]
+
 ghost use Rattle.std.specs.Prelude.{◌≡◌, ℕ, ◌<◌, ◌≤◌, length};
 ghost use Rattle.image.specs.Images.{files_in};
 ghost use Rattle.sheet.specs.Tables.{line_in};

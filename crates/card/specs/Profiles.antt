@@ -1,10 +1,10 @@
 -- Profiles: which are lawful, and which files one requires.
-use Rattle.std.specs.Prelude.{◌≡◌, ℕ, ◌-◌, ◌<◌, ◌≤◌, Bool, true, ◌&&◌, ◌||◌, ◌==◌, nat_le}
+use Rattle.std.specs.Prelude.{◌≡◌, ℕ, ◌-◌, ◌≤◌, Bool, true, ◌&&◌, ◌||◌, ◌==◌, nat_le}
 use Rattle.card.specs.Sets.{has}
 
--- a kind from 1 to 3 (TD1 to TD3), and a declared set of sixteen bits that contains DG1 (bit 0) and DG2 (bit 1)
+-- a kind from 1 to 3 (TD1 to TD3), and a declared set that contains DG1 (bit 0) and DG2 (bit 1)
 abbrev pub Lawful : ℕ → ℕ → Type 0
-Lawful kind declared = (1 ≤ kind) × (kind ≤ 3) × (has declared 0 ≡ true) × (has declared 1 ≡ true) × (declared < 65536)
+Lawful kind declared = (1 ≤ kind) × (kind ≤ 3) × (has declared 0 ≡ true) × (has declared 1 ≡ true)
 
 -- whether the data group of this file number, 1 to 16, is in a declared set
 abbrev pub declares : ℕ → ℕ → Bool

@@ -1,6 +1,8 @@
 //! A card: its eighteen files by number and template tag, the profile that declares which of them it has, and the lines
 //! that are said of it.
 //! Everything else stands on this crate.
+#![tactic(auto)]
+
 pub mod files;
 pub mod line;
 pub mod profile;

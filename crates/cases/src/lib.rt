@@ -1,4 +1,6 @@
 //! The lines of a file, from its bytes or its absence and the profile. Nothing here reads a source.
+#![tactic(auto)]
+
 pub mod common_file;
 pub mod face_file;
 pub mod group;

@@ -1,4 +1,5 @@
 //! Examples that the cases are run on.
+#![tactic(auto)]
 
 #[cfg(test)]
 mod contents;

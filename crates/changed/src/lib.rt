@@ -1,4 +1,6 @@
 //! The changed source: any source with a few changes laid on its files.
+#![tactic(auto)]
+
 pub mod change;
 pub mod changed;
 

@@ -2,7 +2,7 @@
 ghost use Rattle.std.specs.Prelude.{◌≡◌, ◌-◌, ◌<◌, ◌≤◌, min, max, true, ◌==◌};
 ghost use Rattle.source.specs.Reads.{WellFormed, Reads};
 ghost use Rattle.image.specs.Images.{files_in, files_short};
-ghost use Rattle.image.specs.Counts.{Tells};
+ghost use Rattle.image.specs.Counts.{Fully, LostWhenSpent};
 
 use crate::image::Image;
 use source::{Answer, Fault, Loss, Source, well_formed};
@@ -40,7 +40,7 @@ impl<'a> Source for Chip<'a> {
 
     ghost bounded = { λ s f. files_short s.image.row.now f };
 
-    ghost steps = { λ s file place wanted r t. (t.image ≡ s.image) × (t.span ≡ s.span) × (t.commands ≡ s.commands - 1) × Tells (files_in s.image.row.now file) place (min (max s.span 1) wanted) (s.commands == 0) r };
+    ghost steps = { λ s file place wanted t. (t.image ≡ s.image) × (t.span ≡ s.span) × (t.commands ≡ s.commands - 1) };
 
     fn read(
         &mut self,
@@ -52,8 +52,10 @@ impl<'a> Source for Chip<'a> {
         ensures files { files_in self.new.image.row.now ≡ files_in self.old.image.row.now }
         ensures lasts { (self.old.commands == 0) ≡ true → (self.new.commands == 0) ≡ true }
         ensures reads { Reads (files_in self.old.image.row.now file) (self.old.commands == 0) (self.new.commands == 0) file place wanted buffer.old buffer.new result }
-        ensures steps { WellFormed file wanted buffer.old → (self.new.image ≡ self.old.image) × (self.new.span ≡ self.old.span) × (self.new.commands ≡ self.old.commands - 1) × Tells (files_in self.old.image.row.now file) place (min (max self.old.span 1) wanted) (self.old.commands == 0) result }
+        ensures steps { WellFormed file wanted buffer.old → (self.new.image ≡ self.old.image) × (self.new.span ≡ self.old.span) × (self.new.commands ≡ self.old.commands - 1) }
         ensures still { (WellFormed file wanted buffer.old → ⊥) → self.new ≡ self.old }
+        ensures fully { Fully (files_in self.old.image.row.now file) place (min (max self.old.span 1) wanted) result }
+        ensures spent { LostWhenSpent self.old.commands result }
     {
         if !well_formed(file, wanted, buffer) {
             return Err(Fault::Malformed);

@@ -5,7 +5,7 @@ ghost use Rattle.std.specs.Option.{option_map};
 ghost use Rattle.source.specs.Reads.{WellFormed, Reads};
 ghost use Rattle.image.specs.Images.{files_in, files_short};
 ghost use Rattle.image.specs.Checks.{Starts, Checks, StandsFor};
-ghost use Rattle.image.specs.Counts.{Copies, AnswersFully, Tells};
+ghost use Rattle.image.specs.Counts.{Copies, Fully, AnswersFully};
 ghost use Rattle.image.specs.Numbers.{of_image};
 
 use card::{EF_SOD, LONGEST};
@@ -157,7 +157,7 @@ impl<'a> Source for Image<'a> {
 
     ghost bounded = { λ s f. files_short s.row.now f };
 
-    ghost steps = { λ s file place wanted r t. (t ≡ s) × Tells (files_in s.row.now file) place wanted false r };
+    ghost steps = { λ s file place wanted t. t ≡ s };
 
     fn read(
         &mut self,
@@ -169,8 +169,9 @@ impl<'a> Source for Image<'a> {
         ensures files { files_in self.new.row.now ≡ files_in self.old.row.now }
         ensures lasts { ◌≡◌ {A = Bool} false true → ◌≡◌ {A = Bool} false true }
         ensures reads { Reads (files_in self.old.row.now file) false false file place wanted buffer.old buffer.new result }
-        ensures steps { WellFormed file wanted buffer.old → (self.new ≡ self.old) × Tells (files_in self.old.row.now file) place wanted false result }
+        ensures steps { WellFormed file wanted buffer.old → self.new ≡ self.old }
         ensures still { (WellFormed file wanted buffer.old → ⊥) → self.new ≡ self.old }
+        ensures fully { Fully (files_in self.old.row.now file) place wanted result }
     {
         if !well_formed(file, wanted, buffer) {
             return Err(Fault::Malformed);

@@ -1,4 +1,6 @@
 //! Two sources: the image, which has a card's files in memory, and the chip, an image behind a link that can be lost.
+#![tactic(auto)]
+
 pub mod chip;
 pub mod image;
 

@@ -1,120 +1,78 @@
-//! Prints what calls answered.
-use card::{EF_SOD, Line};
-use image::Image;
-use run::{AskRefusal, CloseRefusal, JudgeRefusal, Step, Summary};
-use source::WholeRefusal;
+//! Prints the lines of a file, each with the number of its case.
+use card::Line;
+use cases::{CommonFileLines, FaceFileLines, SecurityLines, Structure, ZoneFileLines};
+use std::io;
 
-/// The bytes of each file that is there, in hexadecimal.
-pub fn print_bytes(rt: &HostRuntime, image: Image) -> anyhow::Result<()> {
-    for file in 0..=EF_SOD {
-        if let Some(content) = image.file(file) {
-            print!(rt; "  file {file}:")?;
-            for byte in content {
-                print!(rt; " {byte:02X}")?;
-            }
-            println!(rt; "")?;
-        }
-    }
-    Ok(())
+/// Cases 1 to 3.
+pub fn print_structure(rt: &HostRuntime, lines: Structure) -> io::Result<()> {
+    print_cases(rt, 1, &[lines.present, lines.template, lines.tiling])
 }
 
-/// What each call did.
-pub fn print_steps(rt: &HostRuntime, steps: &[Step]) -> anyhow::Result<()> {
-    for step in steps {
-        print_step(rt, step)?;
-    }
-    Ok(())
+/// EF.COM: cases 1 to 8.
+pub fn print_common(rt: &HostRuntime, lines: CommonFileLines) -> io::Result<()> {
+    print_structure(rt, lines.structure)?;
+    let own = lines.common;
+    print_cases(
+        rt,
+        4,
+        &[
+            own.contents,
+            own.version,
+            own.unicode,
+            own.tags,
+            own.declared,
+        ],
+    )
 }
 
-/// What each call but the judges did.
-pub fn print_closes(rt: &HostRuntime, steps: &[Step]) -> anyhow::Result<()> {
-    for step in steps {
-        match step {
-            Step::Judge {
-                file: _,
-                buffer: _,
-                answer: _,
-            } => {}
-            _ => print_step(rt, step)?,
-        }
-    }
-    Ok(())
+/// DG1: cases 1 to 3 and 9 to 20.
+pub fn print_zone(rt: &HostRuntime, lines: ZoneFileLines) -> io::Result<()> {
+    print_structure(rt, lines.structure)?;
+    let own = lines.zone;
+    print_cases(
+        rt,
+        9,
+        &[
+            own.zone,
+            own.characters,
+            own.code,
+            own.issuer,
+            own.name,
+            own.number,
+        ],
+    )?;
+    print_cases(
+        rt,
+        15,
+        &[
+            own.nationality,
+            own.birth,
+            own.sex,
+            own.expiry,
+            own.optional,
+            own.composite,
+        ],
+    )
 }
 
-fn print_step(rt: &HostRuntime, step: &Step) -> anyhow::Result<()> {
-    match step {
-        Step::Judge {
-            file,
-            buffer,
-            answer,
-        } => {
-            let size = buffer.len();
-            print!(rt; "  judge file {file} into {size} bytes: ")?;
-            print_judge(rt, *answer)
-        }
-        Step::Ask { case, file, answer } => {
-            print!(rt; "  ask case {case} of file {file}: ")?;
-            print_line(rt, *answer)
-        }
-        Step::Close { answer } => {
-            print!(rt; "  close: ")?;
-            print_summary(rt, *answer)
-        }
-    }
+/// DG2: cases 1 to 3 and 21 to 23.
+pub fn print_faces(rt: &HostRuntime, lines: FaceFileLines) -> io::Result<()> {
+    print_structure(rt, lines.structure)?;
+    let own = lines.faces;
+    print_cases(rt, 21, &[own.group, own.entries, own.features])
 }
 
-fn print_judge(rt: &HostRuntime, answer: Option<Result<(), JudgeRefusal>>) -> anyhow::Result<()> {
-    match answer {
-        Some(Ok(())) => println!(rt; "done")?,
-        Some(Err(refusal)) => {
-            let number = refusal.number();
-            print!(rt; "refusal {number}")?;
-            if let JudgeRefusal::Unread(WholeRefusal::Lost { received, loss: _ }) = refusal {
-                print!(rt; ", the link is lost after {received} bytes")?;
-            }
-            println!(rt; "")?;
-        }
-        None => println!(rt; "not made")?,
-    }
-    Ok(())
+/// EF.SOD: cases 1 to 3 and 24.
+pub fn print_security(rt: &HostRuntime, lines: SecurityLines) -> io::Result<()> {
+    print_structure(rt, lines.structure)?;
+    print_cases(rt, 24, &[lines.single])
 }
 
-fn print_line(rt: &HostRuntime, answer: Option<Result<Line, AskRefusal>>) -> anyhow::Result<()> {
-    match answer {
-        Some(Ok(line)) => println!(rt; "{line}")?,
-        Some(Err(refusal)) => {
-            let number = refusal.number();
-            println!(rt; "refusal {number}")?;
-        }
-        None => println!(rt; "not made")?,
-    }
-    Ok(())
-}
-
-fn print_summary(
-    rt: &HostRuntime,
-    answer: Option<Result<Summary, CloseRefusal>>,
-) -> anyhow::Result<()> {
-    match answer {
-        Some(Ok(Summary { clean, tally })) => {
-            let word = if clean { "clean" } else { "not clean" };
-            let pass = tally.pass;
-            let fail = tally.fail;
-            let unused = tally.not_applicable;
-            let blocked = tally.blocked;
-            println!(rt;
-                "{word}; {pass} pass, {fail} fail, {unused} not applicable, {blocked} blocked"
-            )?;
-        }
-        Some(Err(refusal)) => {
-            let number = refusal.number();
-            print!(rt; "refusal {number}")?;
-            if let CloseRefusal::Unjudged { file } = refusal {
-                print!(rt; ", file {file} is not judged")?;
-            }
-            println!(rt; "")?;
-        }
-        None => println!(rt; "not made")?,
+/// Lines of cases that follow each other from a number on.
+fn print_cases(rt: &HostRuntime, first: usize, lines: &[Line]) -> io::Result<()> {
+    for (i, line) in lines.iter().enumerate() {
+        let case = first.saturating_add(i);
+        print!(rt; " {case} {line};")?;
     }
     Ok(())
 }

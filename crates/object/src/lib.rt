@@ -1,4 +1,6 @@
 //! Objects: a tag, a length and a value, read from a file's bytes; and whether objects tile a range at every level.
+#![tactic(auto)]
+
 pub mod header;
 pub mod object;
 pub mod reader;

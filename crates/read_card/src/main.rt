@@ -1,4 +1,6 @@
 //! Reads a sample card from its image and over a chip, and prints each step and what came out.
+#![tactic(auto)]
+
 use card::{EF_SOD, LONGEST, Profile};
 use changed::Changed;
 use image::{Chip, Image, ImageRefusal};

@@ -1,5 +1,6 @@
 //! Sample cards for programs and tests, as images: for each file its number, its length in two bytes, and the file.
 //! The zones are the specimens that ICAO Doc 9303 prints for the three layouts.
+#![tactic(auto)]
 
 /// A TD3 card with EF.COM, DG1, DG2 and EF.SOD.
 pub const TD3_CARD: &[u8; 158] = b"\

@@ -6,11 +6,7 @@ use Rattle.source.specs.Numbers.{of_whole}
 use Rattle.source.specs.Reads.{laid}
 use Rattle.source.specs.declared.read.Answer.{Answer}
 use Rattle.source.specs.declared.read.Answer.TheVariants.{Absent, Bytes}
-use Rattle.source.specs.declared.read.Fault.{Fault}
-use Rattle.source.specs.declared.read.Fault.TheVariants.{Lost}
-use Rattle.source.specs.declared.read.Loss.{Loss}
 use Rattle.source.specs.declared.whole.WholeRefusal.{WholeRefusal}
-use Rattle.source.specs.declared.whole.WholeRefusal.TheVariants.{Lost as CutOff}
 
 -- a file of a card, and a buffer that the longest file fits into
 abbrev pub Ready : ℕ → List ℕ → Type 0
@@ -23,7 +19,7 @@ Holds None before after (Bytes count) = ⊥
 Holds (Some bs) before after Absent = ⊥
 Holds (Some bs) before after (Bytes count) = (count ≡ length bs) × (after ≡ laid bs before)
 
--- So many bytes were received before the link was lost. Which number that is, `ReadsOn` says: those of the reads before.
+-- how many bytes were received before the link was lost: the source's choice, but for this
 pub record Received (bs : List ℕ) (lost lost' : Bool) (count : ℕ) : Type 0 where
   pub within : count ≤ length bs
   pub unfinished : count < 32767
@@ -38,14 +34,10 @@ Wholly bs lost lost' file before after (Err refusal) =
     × (after ≡ laid (take (value (of_whole refusal)) (content bs)) before)
 Wholly bs lost lost' file before after (Ok answer) = Ready file before × (lost ≡ false) × Holds bs before after answer
 
--- The reads that are made of a file of which so many bytes are there, what each answered and made of the source, and what
--- comes of them. Each wants the smaller of 255 and what is missing to 32,767, and stands behind the bytes of the ones
--- before. Reading ends with the first read that brings no byte, says absent or is refused for a lost link, and otherwise
+-- The reads that are made of a file of which so many bytes are there, and what they make of a source: each wants the
+-- smaller of 255 and what is missing to 32,767, the next one stands behind the bytes of the one before, and none is made
 -- once 32,767 bytes are there.
-pub data ReadsOn {S : Type 0} (steps : S → ℕ → ℕ → ℕ → Result Answer Fault → S → Type 0) (file : ℕ) : ℕ → S → Result Answer WholeRefusal → S → Type 0 where
-  full : {s : S} → ReadsOn steps file 32767 s (Ok (Bytes 32767)) s
-  ended : {have : ℕ} {s t : S} → have < 32767 → steps s file have (min (32767 - have) 255) (Ok (Bytes 0)) t → ReadsOn steps file have s (Ok (Bytes have)) t
-  absent : {have : ℕ} {s t : S} → have < 32767 → steps s file have (min (32767 - have) 255) (Ok Absent) t → ReadsOn steps file have s (Ok Absent) t
-  refused : {have : ℕ} {s t : S} (loss : Loss) → have < 32767 → steps s file have (min (32767 - have) 255) (Err (Lost loss)) t → ReadsOn steps file have s (Err (CutOff have loss)) t
-  next : {have : ℕ} {s t u : S} {outcome : Result Answer WholeRefusal} (count : ℕ) → have < 32767 → 0 < count
-      → steps s file have (min (32767 - have) 255) (Ok (Bytes count)) t → ReadsOn steps file (have + count) t outcome u → ReadsOn steps file have s outcome u
+pub data ReadsOn {S : Type 0} (steps : S → ℕ → ℕ → ℕ → S → Type 0) (file : ℕ) : ℕ → S → S → Type 0 where
+  full : {s : S} → ReadsOn steps file 32767 s s
+  last : {have : ℕ} {s t : S} → have < 32767 → steps s file have (min (32767 - have) 255) t → ReadsOn steps file have s t
+  next : {have : ℕ} {s t u : S} (count : ℕ) → have < 32767 → 0 < count → steps s file have (min (32767 - have) 255) t → ReadsOn steps file (have + count) t u → ReadsOn steps file have s u

@@ -46,7 +46,7 @@ pub fn read_whole<S: Source>(
     ensures files { files source.new ≡ files source.old }
     ensures lasts { lost source.old ≡ true → lost source.new ≡ true }
     ensures wholly { Wholly (files source.old file) (lost source.old) (lost source.new) file buffer.old buffer.new result }
-    ensures reads { Ready file buffer.old → ReadsOn steps file 0 source.old result source.new }
+    ensures reads { Ready file buffer.old → ReadsOn steps file 0 source.old source.new }
     ensures still { (Ready file buffer.old → ⊥) → source.new ≡ source.old }
 {
     if file > EF_SOD {
@@ -64,7 +64,7 @@ fn read_on<S: Source>(source: &mut S, file: u8, buffer: &mut [u8]) -> Result<Ans
     ensures files { files source.new ≡ files source.old }
     ensures lasts { lost source.old ≡ true → lost source.new ≡ true }
     ensures wholly { Wholly (files source.old file) (lost source.old) (lost source.new) file buffer.old buffer.new result }
-    ensures reads { ReadsOn steps file 0 source.old result source.new }
+    ensures reads { ReadsOn steps file 0 source.old source.new }
 {
     let mut have: u16 = 0;
     while have < LONGEST {

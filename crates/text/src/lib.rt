@@ -1,4 +1,6 @@
 //! The texts of the machine readable zone: check digits, dates and names. Nothing here knows where a field stands.
+#![tactic(auto)]
+
 mod dates;
 mod digits;
 mod names;

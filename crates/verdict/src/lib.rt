@@ -1,4 +1,6 @@
 //! The lines of any file, by the numbers of their cases.
+#![tactic(auto)]
+
 ghost use Rattle.std.specs.Prelude.{◌≡◌, ◌<◌, ◌≤◌, MatchOption};
 ghost use Rattle.std.specs.Option.{option_map};
 ghost use Rattle.verdict.specs.Verdicts.{AreFileLines, by_case, structure_of, common_of, zone_of, faces_of};

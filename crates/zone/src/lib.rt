@@ -1,4 +1,6 @@
 //! DG1's own cases, 9 to 20: the machine readable zone in its three layouts, and one judge for every layout.
+#![tactic(auto)]
+
 mod contents;
 mod fields;
 mod judge;

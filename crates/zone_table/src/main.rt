@@ -1,5 +1,7 @@
 //! Changes each character of the three printed zones in turn, and prints which cases fail and where.
 //! The expected output is made by tools/zone_table.py, which has the rules of the zone written a second time.
+#![tactic(auto)]
+
 use anyhow::anyhow;
 use card::{Line, Profile};
 use cases::judge_zone;

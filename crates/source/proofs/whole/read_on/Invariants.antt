@@ -1,7 +1,5 @@
-use Rattle.std.proofs.Common.{◌≡◌, ◌-◌, Result}
+use Rattle.std.proofs.Common.{◌≡◌, ◌-◌}
 use Rattle.source.specs.Whole.{ReadsOn}
-use Rattle.source.specs.declared.read.Answer.{Answer}
-use Rattle.source.specs.declared.whole.WholeRefusal.{WholeRefusal}
 use Rattle.source.proofs.ReadingOn.{SoFar}
 use Rattle.source.proofs.whole.read_on.Given as goal
 
@@ -10,7 +8,7 @@ invariant-loop-have g l =
     let m = g.S.Source in
     (m.files l.source ≡ m.files l.initial.source)
     × SoFar (m.files l.initial.source l.file) (m.lost l.initial.source) (m.lost l.source) l.have l.initial.buffer l.buffer
-    × ((outcome : Result Answer WholeRefusal) (t : g.row.S.Denot) → ReadsOn m.steps l.file l.have l.source outcome t → ReadsOn m.steps l.file 0 l.initial.source outcome t)
+    × ((t : g.row.S.Denot) → ReadsOn m.steps l.file l.have l.source t → ReadsOn m.steps l.file 0 l.initial.source t)
 
 abbrev pub decreases-loop-have : goal.decreases-loop-have
 decreases-loop-have g l = 32767 - l.have

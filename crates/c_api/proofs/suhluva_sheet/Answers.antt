@@ -15,16 +15,16 @@ returns c =
     let declared = c.args.declared in
     let p = c.in-Ok.ensures in
     let files = files_in c.in-Ok-check.image.row.now in
-    let table = c.sheet-of-sheet.result.lines in
+    let table = c.sheet_of-sheet.result.lines in
     let holds : (file : ℕ) → file ≤ 17 → HoldsVerdict kind declared file (files file) (λ case. line_in table case file)
     = λ file l. subst (λ k. HoldsVerdict k declared file (files file) (λ case. line_in table case file)) p.1
-    (subst (λ d. HoldsVerdict c.in-Ok.profile.kind d file (files file) (λ case. line_in table case file)) p.2 (c.sheet-of-sheet.ensures file l)) in
+    (subst (λ d. HoldsVerdict c.in-Ok.profile.kind d file (files file) (λ case. line_in table case file)) p.2 (c.sheet_of-sheet.ensures file l)) in
     let lines = card_lines kind declared files (line_in table) holds in
     let held = card_held kind declared files (line_in table) holds in
     let t = c.tally-tally.ensures in
-    let w = c.write-lines.ensures in
-    let states = subst (λ z. Each state_of z c.args.states.now c.write-lines.new.states) c.lines.ensures w.states in
-    let places = subst (λ z. Each place_of z c.args.places.now c.write-lines.new.places) c.lines.ensures w.places in (
+    let w = c.write_lines.ensures in
+    let states = subst (λ z. Each state_of z c.args.states.now c.write_lines.new.states) c.lines.ensures w.states in
+    let places = subst (λ z. Each place_of z c.args.places.now c.write_lines.new.places) c.lines.ensures w.places in (
       p.0,
       (omega (arith, c.if-states-lt-LINES.false), omega (arith, c.if-places-lt-LINES.false)),
       record {
@@ -32,8 +32,8 @@ returns c =
         image = c.in-Ok-check.ensures;
         lines = lines;
         given = card_given kind declared files (line_in table) holds;
-        states = by_place state_of table lines c.args.states.now c.write-lines.new.states held states;
-        places = by_place place_of table lines c.args.places.now c.write-lines.new.places held places;
+        states = by_place state_of table lines c.args.states.now c.write_lines.new.states held states;
+        places = by_place place_of table lines c.args.places.now c.write_lines.new.places held places;
         counts = record {
           pass = c.from.ensures ∙ t.pass ∙ count_same passing (line_in table) lines held;
           fail = c.from-2.ensures ∙ t.fail ∙ count_same failing (line_in table) lines held;

@@ -8,8 +8,8 @@ loop-i-init c = (filled_none state_of c.args.lines.now c.args.states.now, filled
 
 pub loop-i-preserved : goal.loop-i-preserved
 loop-i-preserved c = (
-  filled_more state_of c.args.lines.now c.loop-i.i c.state-number.result c.args.states.now c.loop-i.states (omega arith) (omega arith) c.state-number.ensures c.loop-i.invariant.0,
-  filled_more place_of c.args.lines.now c.loop-i.i c.failed-at.result c.args.places.now c.loop-i.places (omega arith) (omega arith) c.failed-at.ensures c.loop-i.invariant.1,
+  filled_more state_of c.args.lines.now c.loop-i.i c.state_number.result c.args.states.now c.loop-i.states (omega arith) (omega arith) c.state_number.ensures c.loop-i.invariant.0,
+  filled_more place_of c.args.lines.now c.loop-i.i c.failed_at.result c.args.places.now c.loop-i.places (omega arith) (omega arith) c.failed_at.ensures c.loop-i.invariant.1,
 )
 
 pub returns : goal.returns

@@ -10,11 +10,11 @@ use Rattle.cases.proofs.face_file.judge_faces.Goals as goal
 -- every profile declares DG2
 pub returns-in-Ok : goal.returns-in-Ok
 returns-in-Ok c =
-    let own = c.face-lines-faces.result in
+    let own = c.face_lines-faces.result in
     let file = option_map (λ x. x.now) c.args.content in
     let is : required c.args.profile.declared 2 ≡ true = c.args.profile.lawful.3 in
     passed (template_tag_of 2) file true c.in-Ok.field-0 (FaceOwn own) (own ≡ faces_blocked)
-    (subst (λ b. Sound (template_tag_of 2) file b c.in-Ok.field-0) is c.in-Ok.ensures) c.face-lines-faces.ensures
+    (subst (λ b. Sound (template_tag_of 2) file b c.in-Ok.field-0) is c.in-Ok.ensures) c.face_lines-faces.ensures
 
 pub returns-in-Err : goal.returns-in-Err
 returns-in-Err c =

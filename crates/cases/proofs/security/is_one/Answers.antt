@@ -2,4 +2,4 @@ use Rattle.cases.proofs.Structures.{one_when}
 use Rattle.cases.proofs.security.is_one.Goals as goal
 
 pub returns : goal.returns
-returns c = one_when _ c.in-Some.ensures.begins c.is-done.ensures
+returns c = one_when _ c.in-Some.ensures.begins c.is_done.ensures

@@ -10,8 +10,8 @@ use Rattle.cases.proofs.structure.open_file.Goals as goal
 pub open_template_requires : goal.open_template_requires
 open_template_requires c = tag_short c.args.file c.requires
 
-pub invariant-of-tile : goal.invariant-of-tile
-invariant-of-tile c = (opens_within c.in-Ok.ensures, tt)
+pub invariant_of-tile : goal.invariant_of-tile
+invariant_of-tile c = (opens_within c.in-Ok.ensures, tt)
 
 pub returns-in-Err-tile : goal.returns-in-Err-tile
 returns-in-Err-tile c =

@@ -10,7 +10,7 @@ loop-change-preserved c =
     let i = c.loop-change.change-index in
     let file = c.args.file in
     let from = c.args.from in
-    ap (with_settings (drop (i + 1) cs) file from) c.lay-on.ensures ∙ sym (at_drop_more (λ z. with_settings z file from c.loop-change.part) cs i (Remove 0) c.loop-change-test.true) ∙ c.loop-change.invariant
+    ap (with_settings (drop (i + 1) cs) file from) c.lay_on.ensures ∙ sym (at_drop_more (λ z. with_settings z file from c.loop-change.part) cs i (Remove 0) c.loop-change-test.true) ∙ c.loop-change.invariant
 
 pub returns : goal.returns
 returns c = sym (ap (λ z. with_settings z c.args.file c.args.from c.loop-change.part) (drop_all c.loop-change.change-index c.args.changes.now c.loop-change-test.false)) ∙ c.loop-change.invariant

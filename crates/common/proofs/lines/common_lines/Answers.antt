@@ -9,4 +9,4 @@ tag_lines_tags_requires c = omega (arith, contains_end c.in-Some.ensures, length
 pub returns : goal.returns
 returns c =
     with_contents c.args.declared c.args.reader.position (rest_of c.args.reader) c.in-Some.contents _ _ _ _ c.in-Some.ensures
-    c.version-line-version.ensures c.unicode-line-unicode.ensures c.tag-lines-tags.ensures
+    c.version_line-version.ensures c.unicode_line-unicode.ensures c.tag_lines-tags.ensures

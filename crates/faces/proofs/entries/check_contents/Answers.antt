@@ -13,12 +13,12 @@ pub loop-value-smaller : goal.loop-value-smaller
 loop-value-smaller c = omega (arith, begins_long c.in-Some.ensures.begins)
 
 pub loop-value-preserved : goal.loop-value-preserved
-loop-value-preserved c = (walk_step c.loop-value.invariant.0 c.in-Some.ensures c.if-not-is-entry.ensures, refl)
+loop-value-preserved c = (walk_step c.loop-value.invariant.0 c.in-Some.ensures c.if-not-is_entry.ensures, refl)
 
 pub returns : goal.returns
-returns c = walk_done c.loop-value.invariant.0 c.in-default.ensures.lacks
+returns c = walk_done c.loop-value.invariant.0 c.in_default.ensures.lacks
 
-pub returns-then-not-is-entry : goal.returns-then-not-is-entry
-returns-then-not-is-entry c =
+pub returns-then-not-is_entry : goal.returns-then-not-is_entry
+returns-then-not-is_entry c =
     subst (λ q. Stops 0x7F60 Entry (λ at _. at) c.args.reader.position (rest_of c.args.reader) q) (sym c.loop-value.invariant.1)
-    (walk_stop c.loop-value.invariant.0 c.in-Some.ensures c.if-not-is-entry.ensures)
+    (walk_stop c.loop-value.invariant.0 c.in-Some.ensures c.if-not-is_entry.ensures)

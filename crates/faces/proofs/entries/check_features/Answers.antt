@@ -14,15 +14,15 @@ pub loop-value-smaller : goal.loop-value-smaller
 loop-value-smaller c = omega (arith, begins_long c.in-Some.ensures.begins)
 
 pub loop-value-preserved : goal.loop-value-preserved
-loop-value-preserved c = walk_step c.loop-value.invariant c.in-Some.ensures c.if-not-is-described.ensures
+loop-value-preserved c = walk_step c.loop-value.invariant c.in-Some.ensures c.if-not-is_described.ensures
 
 pub returns : goal.returns
-returns c = walk_done c.loop-value.invariant c.in-default.ensures.lacks
+returns c = walk_done c.loop-value.invariant c.in_default.ensures.lacks
 
-pub returns-then-not-is-described : goal.returns-then-not-is-described
-returns-then-not-is-described c =
+pub returns-then-not-is_described : goal.returns-then-not-is_described
+returns-then-not-is_described c =
     let k = c.in-Some.ensures in
     let v = c.in-Some.value.now in
     let e : c.loop-value.reader.position + header_size 0x7F60 v ≡ c.take.new.self.position - length v = omega (arith, k.position) in
     subst (λ q. Stops 0x7F60 Described (λ at v. at + header_size 0x7F60 v) c.args.reader.position (rest_of c.args.reader) q) e
-    (walk_stop c.loop-value.invariant {c = c.take.new.self} k c.if-not-is-described.ensures)
+    (walk_stop c.loop-value.invariant {c = c.take.new.self} k c.if-not-is_described.ensures)

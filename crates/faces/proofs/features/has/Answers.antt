@@ -25,4 +25,4 @@ loop-other-preserved c =
     c.loop-other.invariant
 
 pub returns : goal.returns
-returns c h = has_not c.in-default.ensures.unread (c.loop-other.invariant.1 h)
+returns c h = has_not c.in_default.ensures.unread (c.loop-other.invariant.1 h)

@@ -22,16 +22,16 @@ pub returns-in-Ok : goal.returns-in-Ok
 returns-in-Ok c =
     let f = c.in-Some.ensures in
     let e = drop c.in-Some.position c.args.reader.bytes.now in
-    ((f.count, f.inside, e, f.group), (c.in-default-check-contents.ensures, c.in-Ok.ensures))
+    ((f.count, f.inside, e, f.group), (c.in_default-check_contents.ensures, c.in-Ok.ensures))
 
-pub returns-in-Err-check-features : goal.returns-in-Err-check-features
-returns-in-Err-check-features c =
+pub returns-in-Err-check_features : goal.returns-in-Err-check_features
+returns-in-Err-check_features c =
     let f = c.in-Some.ensures in
     let e = drop c.in-Some.position c.args.reader.bytes.now in
-    let s = c.in-Err-check-features.ensures in (
+    let s = c.in-Err-check_features.ensures in (
       (f.count, f.inside, e, f.group),
       (
-        c.in-default-check-contents.ensures,
-        (stops_not s, subst (λ p. Stops 0x7F60 Described (λ at v. at + header_size 0x7F60 v) p e c.in-Err-check-features.place) f.at s),
+        c.in_default-check_contents.ensures,
+        (stops_not s, subst (λ p. Stops 0x7F60 Described (λ at v. at + header_size 0x7F60 v) p e c.in-Err-check_features.place) f.at s),
       ),
     )

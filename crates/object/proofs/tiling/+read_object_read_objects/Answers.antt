@@ -5,20 +5,20 @@ use Rattle.object.proofs.Trees.{first_here}
 use Rattle.object.proofs.Steps.{step_plain, step_nested, stops_nested, inner, to_read, all_read}
 use Rattle.object.proofs.tiling.+read_object_read_objects.Goals as goal
 
-pub read-object-returns-then-levels-eq0 : goal.read-object-returns-then-levels-eq0
-read-object-returns-then-levels-eq0 t c = first_here _ _ _ (to_read c.args.reader.now c.requires) (inl c.if-levels-eq0.true)
+pub read_object-returns-then-levels-eq0 : goal.read_object-returns-then-levels-eq0
+read_object-returns-then-levels-eq0 t c = first_here _ _ _ (to_read c.args.reader.now c.requires) (inl c.if-levels-eq0.true)
 
-pub read-object-returns-in-default : goal.read-object-returns-in-default
-read-object-returns-in-default t c = first_here _ _ _ (to_read c.args.reader.now c.requires) (inr c.in-default.ensures.unread)
+pub read_object-returns-in_default : goal.read_object-returns-in_default
+read_object-returns-in_default t c = first_here _ _ _ (to_read c.args.reader.now c.requires) (inr c.in_default.ensures.unread)
 
-pub read-object-returns-in-Plain : goal.read-object-returns-in-Plain
-read-object-returns-in-Plain t c = step_plain _ (rw c.in-Plain.is at c.in-Some.ensures) refl (omega arith)
+pub read_object-returns-in-Plain : goal.read_object-returns-in-Plain
+read_object-returns-in-Plain t c = step_plain _ (rw c.in-Plain.is at c.in-Some.ensures) refl (omega arith)
 
-pub read-object-returns-in-Nested : goal.read-object-returns-in-Nested
-read-object-returns-in-Nested t c =
+pub read_object-returns-in-Nested : goal.read_object-returns-in-Nested
+read_object-returns-in-Nested t c =
     let k = rw c.in-Nested.is at c.in-Some.ensures in
-    let e = inner _ k c.split-at.ensures.front in
-    MatchResult-weaker _ c.read-objects.ensures (λ _ h. step_nested _ k refl (omega arith) (rw e at h)) (λ q f. stops_nested _ k refl (omega arith) q (rw e at f))
+    let e = inner _ k c.split_at.ensures.front in
+    MatchResult-weaker _ c.read_objects.ensures (λ _ h. step_nested _ k refl (omega arith) (rw e at h)) (λ q f. stops_nested _ k refl (omega arith) q (rw e at f))
 
 pub read_objects_returns : goal.read_objects_returns
 read_objects_returns t c = c.loop-reader.invariant.tiled (none, tt, all_read c.loop-reader.reader c.loop-reader-test.false)

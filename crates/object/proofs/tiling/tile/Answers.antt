@@ -5,4 +5,4 @@ use Rattle.object.proofs.Unique.{once}
 use Rattle.object.proofs.tiling.tile.Goals as goal
 
 pub returns : goal.returns
-returns c = MatchResult-weaker c.read-objects.result c.read-objects.ensures (λ _ t. once c.args.levels (rest_of c.args.reader) t) (λ q f. refuted f)
+returns c = MatchResult-weaker c.read_objects.result c.read_objects.ensures (λ _ t. once c.args.levels (rest_of c.args.reader) t) (λ q f. refuted f)

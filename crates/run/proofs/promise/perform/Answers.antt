@@ -50,7 +50,7 @@ returns g c =
     let m = g.S.Source in
     let v = c.loop-step.invariant in
     let o = c.open-run.ensures.parts in
-    let back = c.into-source.ensures in
+    let back = c.into_source.ensures in
     let source = c.args.source in
     let opened = c.open-run.result in
     let xs = c.args.steps.now in
@@ -65,7 +65,7 @@ returns g c =
     let from-source = subst (λ z. Runs m.lost m.steps (m.files z) c.args.profile (new_run (m.lost z)) z (history xs ys) last c.loop-step.run.source) o.0
     (subst (λ z. Runs m.lost m.steps (m.files opened.source) z (new_run (m.lost opened.source)) opened.source (history xs ys) last c.loop-step.run.source) o.1 ran) in
     let runs = subst (λ z. Runs m.lost m.steps (m.files source) c.args.profile (new_run (m.lost source)) source (history xs ys) last z) (sym back) from-source in
-    let leads = runs_lead m.lost m.steps (m.files source) c.args.profile (new_run (m.lost source)) last source c.into-source.result (history xs ys) runs in
+    let leads = runs_lead m.lost m.steps (m.files source) c.args.profile (new_run (m.lost source)) last source c.into_source.result (history xs ys) runs in
     record {
       files = ap m.files back ∙ v.2 ∙ ap m.files o.0;
       promise = record {

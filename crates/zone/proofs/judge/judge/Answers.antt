@@ -21,5 +21,5 @@ returns g c =
     let t = rest_of c.args.reader in
     let same = c.spans-places.ensures.same in
     let zone = subst (λ q. Contains place q.len t c.in-Some.zone) same c.in-Some.ensures in
-    let lines = found p place t c.in-Some.zone c.judge-zone.result zone c.judge-zone.ensures.zone c.judge-zone.ensures.lines in
-    record { lines = lines; changes = shows p place t c.judge-zone.result (subst Lawful same c.spans-places.ensures.lawful) lines }
+    let lines = found p place t c.in-Some.zone c.judge_zone.result zone c.judge_zone.ensures.zone c.judge_zone.ensures.lines in
+    record { lines = lines; changes = shows p place t c.judge_zone.result (subst Lawful same c.spans-places.ensures.lawful) lines }

@@ -23,19 +23,19 @@ returns g c =
       birth = c.line-6.result;
       sex = c.line-7.result;
       expiry = c.line-8.result;
-      optional = c.optional-line.result;
+      optional = c.optional_line.result;
       composite = c.line-9.result;
     } in
     let fields : AreFieldLines p place zone lines = record {
-      code = says_part (Code p.passport) _ _ _ _ _ c.line.ensures c.cut.ensures c.is-code.ensures;
-      issuer = says_part State _ _ _ _ _ c.line-2.ensures c.cut-2.ensures c.is-state.ensures;
-      name = says_part Name _ _ _ _ _ c.line-3.ensures c.cut-3.ensures c.is-name.ensures;
-      number = says _ _ _ c.line-4.ensures c.is-number.ensures;
-      nationality = says_part State _ _ _ _ _ c.line-5.ensures c.cut-4.ensures c.is-state-2.ensures;
-      birth = says _ _ _ c.line-6.ensures c.is-dated.ensures;
-      sex = says _ _ _ c.line-7.ensures c.is-sex.ensures;
-      expiry = says _ _ _ c.line-8.ensures c.is-dated-2.ensures;
-      optional = c.optional-line.ensures;
-      composite = says _ _ _ c.line-9.ensures c.is-composite.ensures;
+      code = says_part (Code p.passport) _ _ _ _ _ c.line.ensures c.cut.ensures c.is_code.ensures;
+      issuer = says_part State _ _ _ _ _ c.line-2.ensures c.cut-2.ensures c.is_state.ensures;
+      name = says_part Name _ _ _ _ _ c.line-3.ensures c.cut-3.ensures c.is_name.ensures;
+      number = says _ _ _ c.line-4.ensures c.is_number.ensures;
+      nationality = says_part State _ _ _ _ _ c.line-5.ensures c.cut-4.ensures c.is_state-2.ensures;
+      birth = says _ _ _ c.line-6.ensures c.is_dated.ensures;
+      sex = says _ _ _ c.line-7.ensures c.is_sex.ensures;
+      expiry = says _ _ _ c.line-8.ensures c.is_dated-2.ensures;
+      optional = c.optional_line.ensures;
+      composite = says _ _ _ c.line-9.ensures c.is_composite.ensures;
     } in
     record { gates = (refl, refl); lines = subst (λ q. AreFieldLines q place zone lines) c.spans-places.ensures.same fields }

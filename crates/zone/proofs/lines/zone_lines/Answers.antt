@@ -12,6 +12,6 @@ pub returns-in-2 : goal.returns-in-2
 returns-in-2 c =
     subst (λ p. AreLayoutLines p c.args.reader.position (rest_of c.args.reader) c.judge-in-2.result) (second_layout c.args.profile.kind (omega arith)) c.judge-in-2.ensures.lines
 
-pub returns-in-default : goal.returns-in-default
-returns-in-default c =
-    subst (λ p. AreLayoutLines p c.args.reader.position (rest_of c.args.reader) c.judge-in-default.result) (third_layout c.args.profile.kind (λ one. omega arith) (λ two. omega arith)) c.judge-in-default.ensures.lines
+pub returns-in_default : goal.returns-in_default
+returns-in_default c =
+    subst (λ p. AreLayoutLines p c.args.reader.position (rest_of c.args.reader) c.judge-in_default.result) (third_layout c.args.profile.kind (λ one. omega arith) (λ two. omega arith)) c.judge-in_default.ensures.lines

@@ -13,12 +13,12 @@ returns-in-Bytes g c =
     let file = c.args.file in
     let n = c.in-Bytes.brought in
     let mid = c.read-2.new.buffer in
-    let h = c.in-ok-answer.ensures in
+    let h = c.in_ok-answer.ensures in
     let r = subst (λ x. Reads (m.files s.below file) (m.lost s.below) (m.lost c.read-2.new.self) file c.args.place c.args.wanted c.args.buffer.now mid (Ok x)) c.in-Bytes.is h.reads in
     let all : s.count - 0 ≡ s.count = omega arith in
     let whole : n - 0 ≡ n = omega arith in
-    let stays : removed cs file ≡ false = ap (λ k. removed (take k s.changes) file) (sym all) ∙ sym c.any-removes.ensures ∙ c.if-any-removes.false in
-    let after = ap (λ z. z ++ drop (n - 0) mid) c.lay-all-on.ensures ∙ ap (λ k. with_settings (take k s.changes) file c.args.place (take (n - 0) mid) ++ drop (n - 0) mid) all ∙ ap (λ k. with_settings cs file c.args.place (take (n - 0) mid) ++ drop k mid) whole in
+    let stays : removed cs file ≡ false = ap (λ k. removed (take k s.changes) file) (sym all) ∙ sym c.any_removes.ensures ∙ c.if-any_removes.false in
+    let after = ap (λ z. z ++ drop (n - 0) mid) c.lay_all_on.ensures ∙ ap (λ k. with_settings (take k s.changes) file c.args.place (take (n - 0) mid) ++ drop (n - 0) mid) all ∙ ap (λ k. with_settings cs file c.args.place (take (n - 0) mid) ++ drop k mid) whole in
     record {
       files = ap (laid_on cs) h.files;
       lasts = h.lasts;

@@ -21,4 +21,4 @@ loop-field-preserved c =
     sym (passed_by f.number c.args.file f.content.now f.rest.now c.loop-field.rest.now c.in-Some.ensures.0 c.in-Some.ensures.1 c.if-number-file.false) ∙ c.loop-field.invariant
 
 pub returns : goal.returns
-returns c = sym (c.in-default.ensures.0 c.args.file) ∙ c.loop-field.invariant
+returns c = sym (c.in_default.ensures.0 c.args.file) ∙ c.loop-field.invariant

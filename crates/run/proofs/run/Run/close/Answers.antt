@@ -30,5 +30,5 @@ returns g c =
     let run = c.args.self.now in
     let t = c.tally-tally.ensures in
     let summary : Summary = record { clean = eqb c.tally-tally.result.fail 0; tally = c.tally-tally.result } in
-    let j : Closes run.sheet run.closed true (Ok summary) = (c.if-self.false, c.in-default.ensures, t, ap (λ n. eqb n 0) t.fail, refl) in
+    let j : Closes run.sheet run.closed true (Ok summary) = (c.if-self.false, c.in_default.ensures, t, ap (λ n. eqb n 0) t.fail, refl) in
     record { same = (refl, refl, refl); closes = j; lawful = λ k. closing_moves (m.files run.source) run.profile run.sheet run.closed true (m.lost run.source) (Ok summary) k j }

@@ -16,12 +16,12 @@ returns g c =
     let file = c.args.file in
     let bytes = m.files run.source file in
     let before = c.args.buffer.now in
-    let after = c.read-whole.new.buffer in
-    let source' = c.read-whole.new.source in
+    let after = c.read_whole.new.buffer in
+    let source' = c.read_whole.new.source in
     let sheet' = c.write.new.self in
-    let h = c.in-ok-answer.ensures in
+    let h = c.in_ok-answer.ensures in
     let w = h.wholly in
-    let whole = read_whole bytes before after c.in-ok-answer.answer w.2 in
+    let whole = read_whole bytes before after c.in_ok-answer.answer w.2 in
     let v = c.in-Some.ensures in
     let k = c.write.ensures.sets v.0 in
     let unclosed = c.if-self.false in
@@ -44,7 +44,7 @@ returns g c =
       lasts = h.lasts;
       same = (refl, refl);
       judges = j;
-      reads = λ _ r. record { outcome = Ok c.in-ok-answer.answer; reads = h.reads r; comes = tt };
+      reads = λ _ r. record { outcome = Ok c.in_ok-answer.answer; reads = h.reads r; comes = tt };
       lawful = lawful_judge (m.files run.source) run.profile run.closed run.closed (m.lost run.source) (m.lost source') file before after run.sheet sheet' refl link (Ok tt) j;
       still = λ n. h.still (n unclosed);
     }
@@ -68,20 +68,20 @@ returns-then-self g c =
       still = λ _. refl;
     }
 
-pub returns-in-err-answer : goal.returns-in-err-answer
-returns-in-err-answer g c =
+pub returns-in_err-answer : goal.returns-in_err-answer
+returns-in_err-answer g c =
     let m = g.S.Source in
     let run = c.args.self.now in
     let file = c.args.file in
     let before = c.args.buffer.now in
-    let after = c.read-whole.new.buffer in
-    let source' = c.read-whole.new.source in
-    let h = c.in-err-answer.ensures in
-    let refusal = c.in-err-answer.field-0.0 in
+    let after = c.read_whole.new.buffer in
+    let source' = c.read_whole.new.source in
+    let h = c.in_err-answer.ensures in
+    let refusal = c.in_err-answer.field-0.0 in
     let unclosed = c.if-self.false in
     let link : (run.closed ≡ false → Ready file before → ⊥) → m.lost source' ≡ m.lost run.source = λ n. ap m.lost (h.still (n unclosed)) in
     let j = unread run.profile.kind run.profile.declared (m.files run.source file) run.closed (m.lost run.source) (m.lost source') file before after run.sheet refusal unclosed h.wholly in
-    let p = err_from_is_err_and c.from-residual.result c.from-residual.ensures.1 in
+    let p = err_from_is_err_and c.from_residual.result c.from_residual.ensures.1 in
     rw (p.1, p.2) (record {
       files = h.files;
       lasts = h.lasts;

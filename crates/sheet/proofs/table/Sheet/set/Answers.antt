@@ -12,8 +12,8 @@ returns-in-Some c =
       judged = refl;
     }
 
-pub returns-in-default : goal.returns-in-default
-returns-in-default c = record {
-  lines = put_none c.args.case c.args.file c.args.line c.args.self.now.lines c.in-default.ensures;
+pub returns-in_default : goal.returns-in_default
+returns-in_default c = record {
+  lines = put_none c.args.case c.args.file c.args.line c.args.self.now.lines c.in_default.ensures;
   judged = refl;
 }

@@ -6,7 +6,7 @@ use Rattle.sheet.proofs.table.Sheet.tally.Goals as goal
 
 pub returns : goal.returns
 returns c =
-    let t = c.tally-of.ensures in
+    let t = c.tally_of.ensures in
     let table = c.args.self.now.lines in
     let long = c.args.self.now.long in
     record {

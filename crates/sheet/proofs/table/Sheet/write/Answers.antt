@@ -19,12 +19,12 @@ returns c =
     let file = c.args.file in
     let given = c.args.by_case.now in
     let before = c.args.self.now.lines in
-    let end = c.end-of-cases-end.result in
-    let at_end : c.loop-case.case ≡ end = omega (arith, c.loop-case-test.false, c.loop-case.auto.case-end c.end-of-cases-end.ensures.within.0) in
+    let end = c.end_of_cases-end.result in
+    let at_end : c.loop-case.case ≡ end = omega (arith, c.loop-case-test.false, c.loop-case.auto.case-end c.end_of_cases-end.ensures.within.0) in
     record {
       sets = λ _. record {
-        lines = λ k f h. set_all file end given before c.loop-case.self.lines k f c.end-of-cases-end.ensures.end (subst (λ z. SetBelow file z given before c.loop-case.self.lines) at_end v.0) h;
+        lines = λ k f h. set_all file end given before c.loop-case.self.lines k f c.end_of_cases-end.ensures.end (subst (λ z. SetBelow file z given before c.loop-case.self.lines) at_end v.0) h;
         judged = λ f. c.insert.ensures f ∙ ap (λ z. eqb f file || has z.bits f) v.1;
       };
-      still = λ l. absurd (omega (arith, c.if-file-gt-EF-SOD.false));
+      still = λ l. absurd (omega (arith, c.if-file-gt-EF_SOD.false));
     }

@@ -30,7 +30,7 @@ impl<S: Source> Changed<S> {
     /// A source without changes.
     pub fn over(below: S) -> Changed<S>
         ensures below { result.below ≡ below }
-        ensures files { laid_on (take result.count result.changes) (files result.below) ≡ files below }
+        ensures files { laid_on (take result.count result.changes) (S.files result.below) ≡ S.files below }
         ensures count { result.count ≡ 0 }
     {
         Changed {
@@ -42,7 +42,7 @@ impl<S: Source> Changed<S> {
 
     /// Removes a file for good.
     pub fn remove(&mut self, file: u8) -> Result<(), ChangeRefusal>
-        ensures removes { Removes file self.old.count (laid_on (take self.old.count self.old.changes) (files self.old.below)) (laid_on (take self.new.count self.new.changes) (files self.new.below)) result }
+        ensures removes { Removes file self.old.count (laid_on (take self.old.count self.old.changes) (S.files self.old.below)) (laid_on (take self.new.count self.new.changes) (S.files self.new.below)) result }
         ensures count { OnOk result (self.new.count ≡ self.old.count + 1) }
         ensures below { self.new.below ≡ self.old.below }
         ensures still { OnErr result (self.new ≡ self.old) }
@@ -55,7 +55,7 @@ impl<S: Source> Changed<S> {
 
     /// Sets the byte at a place of a file; at or past the file's end, or in an absent file, that does nothing.
     pub fn set(&mut self, file: u8, place: u16, byte: u8) -> Result<(), ChangeRefusal>
-        ensures sets { Sets file place byte self.old.count (laid_on (take self.old.count self.old.changes) (files self.old.below)) (laid_on (take self.new.count self.new.changes) (files self.new.below)) result }
+        ensures sets { Sets file place byte self.old.count (laid_on (take self.old.count self.old.changes) (S.files self.old.below)) (laid_on (take self.new.count self.new.changes) (S.files self.new.below)) result }
         ensures count { OnOk result (self.new.count ≡ self.old.count + 1) }
         ensures below { self.new.below ≡ self.old.below }
         ensures still { OnErr result (self.new ≡ self.old) }

@@ -49,7 +49,7 @@ pub fn common_lines(reader: Reader<'_>, declared: u16) -> CommonLines
 fn version_line(value: &[u8], place: usize) -> Line
     ensures { Says result (value.now ≡ version_text) (λ at. at ≡ place) }
 {
-    if value == b"0107" {
+    if value == b"0107".as_slice() {
         Line::Pass
     } else {
         Line::Fail { place }
@@ -60,7 +60,7 @@ fn version_line(value: &[u8], place: usize) -> Line
 fn unicode_line(value: &[u8], place: usize) -> Line
     ensures { Says result (value.now ≡ unicode_text) (λ at. at ≡ place) }
 {
-    if value == b"040000" {
+    if value == b"040000".as_slice() {
         Line::Pass
     } else {
         Line::Fail { place }

@@ -43,10 +43,10 @@ pub fn read_whole<S: Source>(
     file: u8,
     buffer: &mut [u8],
 ) -> Result<Answer, WholeRefusal>
-    ensures files { files source.new ≡ files source.old }
-    ensures lasts { lost source.old ≡ true → lost source.new ≡ true }
-    ensures wholly { Wholly (files source.old file) (lost source.old) (lost source.new) file buffer.old buffer.new result }
-    ensures reads { Ready file buffer.old → ReadsOn steps file 0 source.old source.new }
+    ensures files { S.files source.new ≡ S.files source.old }
+    ensures lasts { S.lost source.old ≡ true → S.lost source.new ≡ true }
+    ensures wholly { Wholly (S.files source.old file) (S.lost source.old) (S.lost source.new) file buffer.old buffer.new result }
+    ensures reads { Ready file buffer.old → ReadsOn S.steps file 0 source.old source.new }
     ensures still { (Ready file buffer.old → ⊥) → source.new ≡ source.old }
 {
     if file > EF_SOD {
@@ -61,10 +61,10 @@ pub fn read_whole<S: Source>(
 /// Reads on from place 0 until the end, an absent answer or as many bytes as a file can have.
 fn read_on<S: Source>(source: &mut S, file: u8, buffer: &mut [u8]) -> Result<Answer, WholeRefusal>
     requires { Ready file buffer.old }
-    ensures files { files source.new ≡ files source.old }
-    ensures lasts { lost source.old ≡ true → lost source.new ≡ true }
-    ensures wholly { Wholly (files source.old file) (lost source.old) (lost source.new) file buffer.old buffer.new result }
-    ensures reads { ReadsOn steps file 0 source.old source.new }
+    ensures files { S.files source.new ≡ S.files source.old }
+    ensures lasts { S.lost source.old ≡ true → S.lost source.new ≡ true }
+    ensures wholly { Wholly (S.files source.old file) (S.lost source.old) (S.lost source.new) file buffer.old buffer.new result }
+    ensures reads { ReadsOn S.steps file 0 source.old source.new }
 {
     let mut have: u16 = 0;
     while have < LONGEST {

@@ -7,8 +7,8 @@ use Rattle.cases.proofs.Tags.{tag_short}
 use Rattle.cases.proofs.Structures.{opens_within, not_tiled}
 use Rattle.cases.proofs.structure.open_file.Goals as goal
 
-pub open_template_requires : goal.open_template_requires
-open_template_requires c = tag_short c.args.file c.requires
+pub open_template-requires : goal.open_template-requires
+open_template-requires c = tag_short c.args.file c.requires
 
 pub invariant_of-tile : goal.invariant_of-tile
 invariant_of-tile c = (opens_within c.in-Ok.ensures, tt)

@@ -3,8 +3,8 @@ use Rattle.object.specs.Readers.{rest_of}
 use Rattle.common.proofs.Holding.{contains_end, with_contents}
 use Rattle.common.proofs.lines.common_lines.Goals as goal
 
-pub tag_lines_tags_requires : goal.tag_lines_tags_requires
-tag_lines_tags_requires c = omega (arith, contains_end c.in-Some.ensures, length-drop c.args.reader.position c.args.reader.bytes.now)
+pub tag_lines-tags-requires : goal.tag_lines-tags-requires
+tag_lines-tags-requires c = omega (arith, contains_end c.in-Some.ensures, length-drop c.args.reader.position c.args.reader.bytes.now)
 
 pub returns : goal.returns
 returns c =

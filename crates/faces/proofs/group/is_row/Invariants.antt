@@ -5,4 +5,4 @@ use Rattle.faces.proofs.Exactly.{Iff}
 use Rattle.faces.proofs.group.is_row.Given as goal
 
 abbrev pub invariant-loop-i : goal.invariant-loop-i
-invariant-loop-i l = Iff (Row l.tag (l.count - l.-i) (rest_of l.reader)) (Row l.tag l.count (rest_of l.initial.reader))
+invariant-loop-i l = Iff (Row l.tag (l.count - l._i) (rest_of l.reader)) (Row l.tag l.count (rest_of l.initial.reader))

@@ -5,11 +5,11 @@ use Rattle.faces.specs.Faces.{Entry, Described}
 use Rattle.faces.proofs.Rows.{row_all, stops_not}
 use Rattle.faces.proofs.lines.face_lines.Goals as goal
 
-pub check_contents_requires : goal.check_contents_requires
-check_contents_requires c = row_all _ _ _ c.in-Some.ensures.group.row
+pub check_contents-requires : goal.check_contents-requires
+check_contents-requires c = row_all _ _ _ c.in-Some.ensures.group.row
 
-pub check_features_requires : goal.check_features_requires
-check_features_requires c = row_all _ _ _ c.in-Some.ensures.group.row
+pub check_features-requires : goal.check_features-requires
+check_features-requires c = row_all _ _ _ c.in-Some.ensures.group.row
 
 pub returns-in-Err : goal.returns-in-Err
 returns-in-Err c =

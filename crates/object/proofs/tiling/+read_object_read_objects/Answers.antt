@@ -20,5 +20,5 @@ read_object-returns-in-Nested t c =
     let e = inner _ k c.split_at.ensures.front in
     MatchResult-weaker _ c.read_objects.ensures (λ _ h. step_nested _ k refl (omega arith) (rw e at h)) (λ q f. stops_nested _ k refl (omega arith) q (rw e at f))
 
-pub read_objects_returns : goal.read_objects_returns
-read_objects_returns t c = c.loop-reader.invariant.tiled (none, tt, all_read c.loop-reader.reader c.loop-reader-test.false)
+pub read_objects-returns : goal.read_objects-returns
+read_objects-returns t c = c.loop-reader.invariant.tiled (none, tt, all_read c.loop-reader.reader c.loop-reader-test.false)

@@ -8,8 +8,8 @@ use Rattle.zone.proofs.Saying.{found}
 use Rattle.zone.proofs.Changing.{shows}
 use Rattle.zone.proofs.judge.judge.Goals as goal
 
-pub judge_zone_requires : goal.judge_zone_requires
-judge_zone_requires g c = (
+pub judge_zone-requires : goal.judge_zone-requires
+judge_zone-requires g c = (
   contains_length c.in-Some.ensures ∙ ap (λ (p : Places). p.len) c.spans-places.ensures.same,
   omega (arith, contains_end c.in-Some.ensures, length-drop c.args.reader.position c.args.reader.bytes.now),
 )

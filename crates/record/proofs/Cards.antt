@@ -252,14 +252,15 @@ module _ (s : StructureLaws) (c : CommonLaws) (z : ZoneLaws) (f : FaceLaws) wher
         by_sort (inr (inr (inr (inr (inl e))))) = at e (part_writes (template_tag_of 13) (λ _. Unit {0}) (λ v. v) (declares declared 13) (files 13) free_fits)
         by_sort (inr (inr (inr (inr (inr g))))) = tree_written file g built ∙ pick_writes file (tree_group file) refl (tree_group_is file g)
 
-    pub clean_written : WrittenUnder kind declared files
-    clean_written = record {
+    pub clean_written : declared < 65536 → WrittenUnder kind declared files
+    clean_written small = record {
       the_record = built;
       its_kind = refl;
       its_set = refl;
       writes = record {
         lawful = record {
           profile = lawful;
+          sixteen_bits = small;
           tags = common_part.3.lawful;
           zone = zone_part.3.lawful;
           faces = face_part.3.lawful;
@@ -376,7 +377,7 @@ module _ (s : StructureLaws) (c : CommonLaws) (z : ZoneLaws) (f : FaceLaws) wher
 
     same_common : (r.tags ≡ other.tags) × (r.declared ≡ other.declared)
     same_common =
-        c.common_written_by_one_order_of_one_set r.declared other.declared r.tags other.tags _ w.lawful.profile.4 v.lawful.profile.4
+        c.common_written_by_one_order_of_one_set r.declared other.declared r.tags other.tags _ w.lawful.sixteen_bits v.lawful.sixteen_bits
         (writes_common r files w) (subst (WritesCommon other.declared other.tags) (sym (same_bytes (both_write 0 (omega arith)))) (writes_common other files v))
 
     same_zone : (r.kind ≡ other.kind) × (r.zone ≡ other.zone)
@@ -452,8 +453,8 @@ module _ (s : StructureLaws) (c : CommonLaws) (z : ZoneLaws) (f : FaceLaws) wher
 
   pub card_laws : CardLaws
   card_laws = record {
-    clean_exactly_when_written = λ kind declared lawful files short lines gives. (
-      clean_written kind declared lawful files short lines gives,
+    clean_exactly_when_written = λ kind declared lawful small files short lines gives. (
+      λ clean. clean_written kind declared lawful files short lines gives clean small,
       λ u. written_clean u.the_record files u.writes lines
           (subst (λ k. CardGives k u.the_record.declared files lines) (sym u.its_kind) (subst (λ d. CardGives kind d files lines) (sym u.its_set) gives)),
     );

@@ -18,4 +18,3 @@ pub mod Headers
 pub mod Faces
 pub mod Cards
 pub mod Samples
-pub mod All

@@ -90,7 +90,8 @@ module _ (kind : ℕ) (from : 1 ≤ kind) (to : kind ≤ 3) (fields : Fields) (z
   unfolding nests
   sample_writes = record {
     lawful = record {
-      profile = (from, to, refl, refl, omega arith);
+      profile = (from, to, refl, refl);
+      sixteen_bits = omega arith;
       tags = two_tags;
       zone = zone;
       faces = one_face;

@@ -1,5 +1,5 @@
 -- What the lines of a whole card have to do with records.
-use Rattle.std.specs.Prelude.{◌≡◌, ℕ, ◌≤◌, List, Some, ◌≢◌}
+use Rattle.std.specs.Prelude.{◌≡◌, ℕ, ◌<◌, ◌≤◌, List, Some, ◌≢◌}
 use Rattle.card.specs.Cards.{Files, Short}
 use Rattle.card.specs.Profiles.{Lawful}
 use Rattle.card.specs.Sheets.{HasLine, CardLines}
@@ -29,7 +29,7 @@ pub record CardChanged (kind : ℕ) (files changed : Files) : Type 0 where
 -- for all files and all lawful profiles
 pub record CardLaws : Type 0 where
   -- no line fails exactly when a record of the profile writes the files
-  pub clean_exactly_when_written : (kind declared : ℕ) → Lawful kind declared → (files : Files) → AllShort files
+  pub clean_exactly_when_written : (kind declared : ℕ) → Lawful kind declared → declared < 65536 → (files : Files) → AllShort files
       → (lines : CardLines) → CardGives kind declared files lines → Iff (CleanCard lines) (WrittenUnder kind declared files)
   -- two records, of whatever profiles, that write the same files are equal
   pub written_by_one_record_only : (r other : Record) (files : Files) → WritesCard r files → WritesCard other files → r ≡ other

@@ -1,5 +1,5 @@
 -- A record: what a hall means to load on a card. Writing it gives the card's files.
-use Rattle.std.specs.Prelude.{◌≡◌, ℕ, ◌≤◌, Bool, true, false, cond, not, ◌&&◌, List, Some, None, Option, ◌==◌, nat_le}
+use Rattle.std.specs.Prelude.{◌≡◌, ℕ, ◌<◌, ◌≤◌, Bool, true, false, cond, not, ◌&&◌, List, Some, None, Option, ◌==◌, nat_le}
 use Rattle.std.specs.Option.{option_map}
 use Rattle.card.specs.Cards.{Files, Short, template_tag_of}
 use Rattle.card.specs.Profiles.{Lawful, declares}
@@ -55,6 +55,7 @@ written r file =
 -- group's trees start on level 2, those in EF.SOD's object 30 on level 3, and none stands below level 16.
 pub record LawfulRecord (r : Record) : Type 0 where
   pub profile : Lawful r.kind r.declared
+  pub sixteen_bits : r.declared < 65536
   pub tags : Order r.declared r.tags
   pub zone : LawfulFields r.kind r.zone
   pub faces : LawfulFaces r.faces

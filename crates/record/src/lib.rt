@@ -2,7 +2,31 @@
 //! The laws stand in `specs/`; nothing here is called by a program.
 #![tactic(auto)]
 
+ghost use Rattle.record.specs.Laws.{StructureLaws, CommonLaws};
+ghost use Rattle.record.specs.CardLaws.{CardLaws};
 ghost use Rattle.record.specs.Samples.{SampleRecords};
+
+/// No line of a data group of trees, of DG13 or of EF.SOD fails exactly when some part writes the file, and one part only.
+fn structure_laws() -> u8
+    ensures { StructureLaws }
+{
+    0
+}
+
+/// No line of EF.COM fails exactly when some order of the declared tags writes it, and one order of one set only.
+fn common_laws() -> u8
+    ensures { CommonLaws }
+{
+    0
+}
+
+/// No line of a card fails exactly when a record of the profile writes its files, and one record only; no card with one
+/// changed digit at a checked place of the zone is free of failure under any profile.
+fn card_laws() -> u8
+    ensures { CardLaws }
+{
+    0
+}
 
 /// For each layout there is a record, and it writes the card that stands there byte by byte.
 fn sample_records() -> u8
@@ -13,10 +37,13 @@ fn sample_records() -> u8
 
 #[cfg(test)]
 mod tests {
-    use super::sample_records;
+    use super::{card_laws, common_laws, sample_records, structure_laws};
 
     #[test]
-    fn records_exist(rt: HostRuntime) {
+    fn laws_hold(rt: HostRuntime) {
+        assert_eq!(rt; structure_laws(), 0);
+        assert_eq!(rt; common_laws(), 0);
+        assert_eq!(rt; card_laws(), 0);
         assert_eq!(rt; sample_records(), 0);
     }
 }

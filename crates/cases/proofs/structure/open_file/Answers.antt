@@ -11,7 +11,7 @@ pub open_template-requires : goal.open_template-requires
 open_template-requires c = tag_short c.args.file c.requires
 
 pub invariant_of-tile : goal.invariant_of-tile
-invariant_of-tile c = (opens_within c.in-Ok.ensures, tt)
+invariant_of-tile c = record { within = opens_within c.in-Ok.ensures }
 
 pub returns-in-Err-tile : goal.returns-in-Err-tile
 returns-in-Err-tile c =

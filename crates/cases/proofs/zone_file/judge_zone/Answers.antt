@@ -21,9 +21,9 @@ returns-in-Ok c =
 
 pub returns-in-Err : goal.returns-in-Err
 returns-in-Err c =
-    let own = c.blocked_zone_lines.result in
+    let own = c.blocked_lines.result in
     let file = option_map (λ x. x.now) c.args.content in
     let kind = c.args.profile.kind in
     let is : required c.args.profile.declared 1 ≡ true = c.args.profile.lawful.2 in
     stopped (template_tag_of 1) file true c.in-Err.structure (ZoneOwn kind own) (own ≡ blocked_zone_lines (layout_of kind))
-    (subst (λ b. Stopped (template_tag_of 1) file b c.in-Err.structure) is c.in-Err.ensures) c.blocked_zone_lines.ensures
+    (subst (λ b. Stopped (template_tag_of 1) file b c.in-Err.structure) is c.in-Err.ensures) c.blocked_lines.ensures

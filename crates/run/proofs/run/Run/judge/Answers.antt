@@ -34,7 +34,7 @@ returns g c =
       whole.0,
       record {
         verdict = by_case c.in-Some.lines;
-        given_by_the_cases = subst (λ z. AreFileLines run.profile.kind run.profile.declared file z (by_case c.in-Some.lines)) (c.content_of_answer.ensures ∙ whole.1) v.1;
+        given_by_the_cases = subst (λ z. AreFileLines run.profile.kind run.profile.declared file z (by_case c.in-Some.lines)) (c.content_in.ensures ∙ whole.1) v.1;
         lines = k.lines;
         judged = k.judged;
       },

@@ -9,7 +9,7 @@ use object::{Object, Reader};
 
 /// A feature that a header may hold: its tag, and the least and the greatest length of its value.
 #[derive(Clone, Copy)]
-pub(crate) struct Feature {
+pub struct Feature {
     pub tag: u16,
     pub least: usize,
     pub most: usize,

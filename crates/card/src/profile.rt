@@ -18,6 +18,7 @@ pub struct Profile {
     kind: u8,
     declared: u16,
     ghost lawful: { Lawful kind declared },
+    ghost sixteen_bits: { declared < 65536 },
 }
 
 impl Profile {

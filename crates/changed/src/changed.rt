@@ -1,9 +1,11 @@
 //! The changed source: its files are those of the source below with the changes laid on, one after the other.
 //! It asks below for whatever it is asked for itself, also of a file that is removed.
-ghost use Rattle.std.specs.Prelude.{◌≡◌, ◌+◌, ◌≤◌, true, length, take, OnErr, OnOk};
+ghost use Rattle.std.specs.Prelude.{◌≡◌, ◌+◌, ◌≤◌, true, length, take, Result, OnErr, OnOk};
 ghost use Rattle.source.specs.Reads.{WellFormed, Reads};
 ghost use Rattle.changed.specs.Changes.{Adds, removed, with_settings, laid_on, laid_on_short};
-ghost use Rattle.changed.specs.Calls.{Removes, Sets};
+ghost use Rattle.changed.specs.Calls.{Removes, Sets, passed_on};
+ghost use Rattle.source.specs.declared.read.Answer.{Answer};
+ghost use Rattle.source.specs.declared.read.Fault.{Fault};
 
 use crate::change::{Change, ChangeRefusal};
 use card::EF_SOD;
@@ -115,6 +117,8 @@ impl<S: Source> Source for Changed<S> {
     ghost bounded = { λ s f. laid_on_short (take s.count s.changes) (S.Source.files s.below) f (S.Source.bounded s.below f) };
 
     ghost steps = { λ s file place wanted t. S.Source.steps s.below file place wanted t.below × (t.changes ≡ s.changes) × (t.count ≡ s.count) };
+
+    ghost outcomes = { λ s file place wanted r t. ((below : Result Answer Fault) × S.Source.outcomes s.below file place wanted below t.below × (r ≡ passed_on (removed (take s.count s.changes) file) below)) × (t.changes ≡ s.changes) × (t.count ≡ s.count) };
 
     fn read(
         &mut self,

@@ -2,7 +2,7 @@
 ghost use Rattle.std.specs.Prelude.{◌≡◌, ◌-◌, ◌<◌, ◌≤◌, min, max, true, ◌==◌};
 ghost use Rattle.source.specs.Reads.{WellFormed, Reads};
 ghost use Rattle.image.specs.Images.{files_in, files_short};
-ghost use Rattle.image.specs.Counts.{Fully, LostWhenSpent};
+ghost use Rattle.image.specs.Counts.{Fully, LostWhenSpent, Tells};
 
 use crate::image::Image;
 use source::{Answer, Fault, Loss, Source, well_formed};
@@ -42,6 +42,8 @@ impl<'a> Source for Chip<'a> {
 
     ghost steps = { λ s file place wanted t. (t.image ≡ s.image) × (t.span ≡ s.span) × (t.commands ≡ s.commands - 1) };
 
+    ghost outcomes = { λ s file place wanted r t. (t.image ≡ s.image) × (t.span ≡ s.span) × (t.commands ≡ s.commands - 1) × Tells (files_in s.image.row.now file) place (min (max s.span 1) wanted) (s.commands == 0) r };
+
     fn read(
         &mut self,
         file: u8,
@@ -53,6 +55,7 @@ impl<'a> Source for Chip<'a> {
         ensures lasts { (self.old.commands == 0) ≡ true → (self.new.commands == 0) ≡ true }
         ensures reads { Reads (files_in self.old.image.row.now file) (self.old.commands == 0) (self.new.commands == 0) file place wanted buffer.old buffer.new result }
         ensures steps { WellFormed file wanted buffer.old → (self.new.image ≡ self.old.image) × (self.new.span ≡ self.old.span) × (self.new.commands ≡ self.old.commands - 1) }
+        ensures outcomes { WellFormed file wanted buffer.old → (self.new.image ≡ self.old.image) × (self.new.span ≡ self.old.span) × (self.new.commands ≡ self.old.commands - 1) × Tells (files_in self.old.image.row.now file) place (min (max self.old.span 1) wanted) (self.old.commands == 0) result }
         ensures still { (WellFormed file wanted buffer.old → ⊥) → self.new ≡ self.old }
         ensures fully { Fully (files_in self.old.image.row.now file) place (min (max self.old.span 1) wanted) result }
         ensures spent { LostWhenSpent self.old.commands result }

@@ -5,7 +5,7 @@ ghost use Rattle.std.specs.Option.{option_map};
 ghost use Rattle.source.specs.Reads.{WellFormed, Reads};
 ghost use Rattle.image.specs.Images.{files_in, files_short};
 ghost use Rattle.image.specs.Checks.{Starts, Checks, StandsFor};
-ghost use Rattle.image.specs.Counts.{Copies, Fully, AnswersFully};
+ghost use Rattle.image.specs.Counts.{Copies, Fully, AnswersFully, answer_of, Tells};
 ghost use Rattle.image.specs.Numbers.{of_image};
 
 use card::{EF_SOD, LONGEST};
@@ -105,7 +105,8 @@ impl<'a> Image<'a> {
     pub(crate) fn answer(&self, file: u8, place: u16, most: usize, buffer: &mut [u8]) -> Answer
         requires some { 0 < most }
         requires room { most ≤ length buffer.old }
-        ensures { AnswersFully (files_in self.now.row.now file) place most buffer.old buffer.new result }
+        ensures answers { AnswersFully (files_in self.now.row.now file) place most buffer.old buffer.new result }
+        ensures told { result ≡ answer_of (files_in self.now.row.now file) place most }
     {
         match self.file(file) {
             None => Answer::Absent,
@@ -159,6 +160,8 @@ impl<'a> Source for Image<'a> {
 
     ghost steps = { λ s file place wanted t. t ≡ s };
 
+    ghost outcomes = { λ s file place wanted r t. (t ≡ s) × Tells (files_in s.row.now file) place wanted false r };
+
     fn read(
         &mut self,
         file: u8,
@@ -170,6 +173,7 @@ impl<'a> Source for Image<'a> {
         ensures lasts { ◌≡◌ {A = Bool} false true → ◌≡◌ {A = Bool} false true }
         ensures reads { Reads (files_in self.old.row.now file) false false file place wanted buffer.old buffer.new result }
         ensures steps { WellFormed file wanted buffer.old → self.new ≡ self.old }
+        ensures outcomes { WellFormed file wanted buffer.old → (self.new ≡ self.old) × Tells (files_in self.old.row.now file) place wanted false result }
         ensures still { (WellFormed file wanted buffer.old → ⊥) → self.new ≡ self.old }
         ensures fully { Fully (files_in self.old.row.now file) place wanted result }
     {

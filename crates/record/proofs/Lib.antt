@@ -18,3 +18,4 @@ pub mod Headers
 pub mod Faces
 pub mod Cards
 pub mod Samples
+pub mod All

@@ -57,7 +57,7 @@ pub close_means : (files : Files) (profile : Profile) (m m' : Moment) (events : 
 close_means files profile m m' events summary short l a =
     let k = accepted files profile m m' events summary l a in
     let c = k.0 in
-    let law = laws.clean_exactly_when_written profile.kind profile.declared profile.lawful files short c.lines c.given in
+    let law = laws.clean_exactly_when_written profile.kind profile.declared profile.lawful profile.sixteen_bits files short c.lines c.given in
     record {
       clean_exactly_when_written = (λ t. law.0 (none_fails files profile summary c k.1 t), λ u. says_clean files profile summary c k.1 (law.1 u));
       counts_of_the_cases = c;

@@ -9,16 +9,16 @@ use Rattle.run.specs.Histories.{Moment, Event, Moves, Leads, Handles, Runs}
 use Rattle.run.specs.Steps.{event, history, SameCall, SameCalls}
 use Rattle.run.specs.declared.promise.Step.{Step}
 
-module _ {S : Type 0} (lost : S → Bool) (steps : S → ℕ → ℕ → ℕ → Result Answer Fault → S → Type 0) (files : Files) (profile : Profile) where
-  runs_more : (m n n' : Moment) (s t u : S) (events : List Event) (e : Event) → Runs lost steps files profile m s events n t → Moves files profile n e n' → Handles steps n e t u
-      → n'.lost ≡ lost u → Runs lost steps files profile m s (events ++ e ∷ []) n' u
+module _ {S : Type 0} (lost : S → Bool) (outcomes : S → ℕ → ℕ → ℕ → Result Answer Fault → S → Type 0) (files : Files) (profile : Profile) where
+  runs_more : (m n n' : Moment) (s t u : S) (events : List Event) (e : Event) → Runs lost outcomes files profile m s events n t → Moves files profile n e n' → Handles outcomes n e t u
+      → n'.lost ≡ lost u → Runs lost outcomes files profile m s (events ++ e ∷ []) n' u
   runs_more m n n' s t u [] e r v h l =
-      (n', (u, (subst (λ z. Moves files profile z e n') r.0 v, subst (λ z. Handles steps m e z u) r.1 (subst (λ z. Handles steps z e t u) r.0 h), l, (refl, refl))))
+      (n', (u, (subst (λ z. Moves files profile z e n') r.0 v, subst (λ z. Handles outcomes m e z u) r.1 (subst (λ z. Handles outcomes z e t u) r.0 h), l, (refl, refl))))
   runs_more m n n' s t u (x ∷ events) e r v h l =
       (r.0, (r.1.0, (r.1.1.0, r.1.1.1, r.1.1.2, runs_more r.0 n n' r.1.0 t u events e r.1.1.3 v h l)))
 
   -- what is told of the link alone
-  pub runs_lead : (m m' : Moment) (s t : S) (events : List Event) → Runs lost steps files profile m s events m' t → Leads files profile m events m'
+  pub runs_lead : (m m' : Moment) (s t : S) (events : List Event) → Runs lost outcomes files profile m s events m' t → Leads files profile m events m'
   runs_lead m m' s t [] r = r.0
   runs_lead m m' s t (x ∷ events) r = (r.0, (r.1.1.0, runs_lead r.0 m' r.1.0 t events r.1.1.3))
 
@@ -60,8 +60,8 @@ module _ (xs ys : List Step) (i : ℕ) (x y : Step) (h : i < length xs) (len : l
   history_turn : history (take (i + 1) xs) (take (i + 1) (set ys i y)) ≡ history (take i xs) (take i ys) ++ event x y ∷ []
   history_turn = ap (λ z. history z (take (i + 1) (set ys i y))) before ∙ ap (λ z. history (take i xs ++ x ∷ []) z) after ∙ history_more (take i xs) (take i ys) x y level
 
-  pub runs_turn : {S : Type 0} (lost : S → Bool) (steps : S → ℕ → ℕ → ℕ → Result Answer Fault → S → Type 0) (files : Files) (profile : Profile) (m n n' : Moment) (s t u : S)
-      → Runs lost steps files profile m s (history (take i xs) (take i ys)) n t → Moves files profile n (event x y) n' → Handles steps n (event x y) t u → n'.lost ≡ lost u
-      → Runs lost steps files profile m s (history (take (i + 1) xs) (take (i + 1) (set ys i y))) n' u
-  runs_turn lost steps files profile m n n' s t u r v k l =
-      subst (λ z. Runs lost steps files profile m s z n' u) (sym history_turn) (runs_more lost steps files profile m n n' s t u (history (take i xs) (take i ys)) (event x y) r v k l)
+  pub runs_turn : {S : Type 0} (lost : S → Bool) (outcomes : S → ℕ → ℕ → ℕ → Result Answer Fault → S → Type 0) (files : Files) (profile : Profile) (m n n' : Moment) (s t u : S)
+      → Runs lost outcomes files profile m s (history (take i xs) (take i ys)) n t → Moves files profile n (event x y) n' → Handles outcomes n (event x y) t u → n'.lost ≡ lost u
+      → Runs lost outcomes files profile m s (history (take (i + 1) xs) (take (i + 1) (set ys i y))) n' u
+  runs_turn lost outcomes files profile m n n' s t u r v k l =
+      subst (λ z. Runs lost outcomes files profile m s z n' u) (sym history_turn) (runs_more lost outcomes files profile m n n' s t u (history (take i xs) (take i ys)) (event x y) r v k l)

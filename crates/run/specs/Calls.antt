@@ -6,7 +6,8 @@ use Rattle.card.specs.Sets.{has}
 use Rattle.card.specs.Sheets.{HasLine, count, failing}
 use Rattle.card.specs.declared.line.Line.{Line}
 use Rattle.source.specs.Reads.{laid}
-use Rattle.source.specs.Whole.{Ready, Received, ReadsOn}
+use Rattle.source.specs.Whole.{Ready, Received}
+use Rattle.source.specs.Outcomes.{ReadsWhole}
 use Rattle.source.specs.declared.read.Answer.{Answer}
 use Rattle.source.specs.declared.read.Fault.{Fault}
 use Rattle.source.specs.declared.whole.WholeRefusal.{WholeRefusal}
@@ -64,9 +65,9 @@ ComesOf (Err refusal) (Err (Unread given)) = given ≡ refusal
 
 -- The reads of a judge, from one state of the source to another: it reads the file whole, once, and answers what comes of
 -- it. So it answers 6 exactly if one of its reads does, with the bytes of the reads before.
-pub record JudgeReads {S : Type 0} (steps : S → ℕ → ℕ → ℕ → Result Answer Fault → S → Type 0) (file : ℕ) (s : S) (answer : Result (Unit {0}) JudgeRefusal) (t : S) : Type 0 where
+pub record JudgeReads {S : Type 0} (outcomes : S → ℕ → ℕ → ℕ → Result Answer Fault → S → Type 0) (file : ℕ) (s : S) (answer : Result (Unit {0}) JudgeRefusal) (t : S) : Type 0 where
   pub outcome : Result Answer WholeRefusal
-  pub reads : ReadsOn steps file 0 s outcome t
+  pub reads : ReadsWhole outcomes file 0 s outcome t
   pub comes : ComesOf outcome answer
 
 -- An ask: the line, or that there is none.

@@ -103,23 +103,23 @@ Leads files profile m (event ∷ events) m' = (next : Moment) × (Moves files pr
 -- What a call makes of the source: a judge that 5, 2 and 3 do not refuse reads its file whole and answers what comes of
 -- it, and nothing else touches the source.
 abbrev pub Handles : {S : Type 0} → (S → ℕ → ℕ → ℕ → Result Answer Fault → S → Type 0) → Moment → Event → S → S → Type 0
-Handles steps m (judging file before after None) s t = ⊥
-Handles steps m (judging file before after (Some answer)) s t =
-    (m.closed ≡ false → Ready file before → JudgeReads steps file s answer t) × ((m.closed ≡ false → Ready file before → ⊥) → t ≡ s)
-Handles steps m (asking case file answer) s t = t ≡ s
-Handles steps m (closing answer) s t = t ≡ s
+Handles outcomes m (judging file before after None) s t = ⊥
+Handles outcomes m (judging file before after (Some answer)) s t =
+    (m.closed ≡ false → Ready file before → JudgeReads outcomes file s answer t) × ((m.closed ≡ false → Ready file before → ⊥) → t ≡ s)
+Handles outcomes m (asking case file answer) s t = t ≡ s
+Handles outcomes m (closing answer) s t = t ≡ s
 
 -- The same over a source that nothing else handles: each moment's link is that of the source at this moment.
 abbrev pub Runs : {S : Type 0} → (S → Bool) → (S → ℕ → ℕ → ℕ → Result Answer Fault → S → Type 0) → Files → Profile → Moment → S → List Event → Moment → S → Type 0
-Runs lost steps files profile m s [] m' t = (m' ≡ m) × (t ≡ s)
-Runs {S} lost steps files profile m s (event ∷ events) m' t = (next : Moment) × ((u : S)
-    × (Moves files profile m event next × Handles steps m event s u × (next.lost ≡ lost u) × Runs lost steps files profile next u events m' t))
+Runs lost outcomes files profile m s [] m' t = (m' ≡ m) × (t ≡ s)
+Runs {S} lost outcomes files profile m s (event ∷ events) m' t = (next : Moment) × ((u : S)
+    × (Moves files profile m event next × Handles outcomes m event s u × (next.lost ≡ lost u) × Runs lost outcomes files profile next u events m' t))
 
 -- A lawful history of a new run over a source, from the source as it was to the source that is handed back.
-pub record LawfulRun {S : Type 0} (lost : S → Bool) (steps : S → ℕ → ℕ → ℕ → Result Answer Fault → S → Type 0) (files : Files) (profile : Profile)
+pub record LawfulRun {S : Type 0} (lost : S → Bool) (outcomes : S → ℕ → ℕ → ℕ → Result Answer Fault → S → Type 0) (files : Files) (profile : Profile)
     (source : S) (events : List Event) (source' : S) : Type 0 where
   pub last : Moment
-  pub runs : Runs lost steps files profile (new_run (lost source)) source events last source'
+  pub runs : Runs lost outcomes files profile (new_run (lost source)) source events last source'
 
 -- A lawful history of a run that was new before it, over a link of which only the loss is told: lost or not before the
 -- first call and after the last.

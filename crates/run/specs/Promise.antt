@@ -28,12 +28,12 @@ pub record CloseMeans (files : Files) (profile : Profile) (summary : Summary) : 
 
 -- What a list of calls on a new run over a source and a profile is promised. The source is told by when its link is lost
 -- and what its reads do; there are the source's files, the source before and after, and the steps before and after.
-pub record Promise {S : Type 0} (lost : S → Bool) (steps : S → ℕ → ℕ → ℕ → Result Answer Fault → S → Type 0) (files : Files) (profile : Profile)
+pub record Promise {S : Type 0} (lost : S → Bool) (outcomes : S → ℕ → ℕ → ℕ → Result Answer Fault → S → Type 0) (files : Files) (profile : Profile)
     (source source' : S) (before after : List Step) : Type 0 where
   -- the steps are the same calls as before, with their answers and buffers
   pub same_calls : SameCalls before after
   -- no call was refused or went through otherwise than the rules say, each byte of each buffer is what they say, and the
   -- source was read as they say and not otherwise
-  pub lawful_throughout : LawfulRun lost steps files profile source (history before after) source'
+  pub lawful_throughout : LawfulRun lost outcomes files profile source (history before after) source'
   -- wherever a close was accepted
   pub every_close : (summary : Summary) → Accepted summary (history before after) → CloseMeans files profile summary

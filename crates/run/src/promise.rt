@@ -33,8 +33,8 @@ pub enum Step {
 
 /// Makes the calls in order on a new run over the source, puts each answer into its step, and hands the source back.
 pub fn perform<S: Source>(source: S, profile: Profile, steps: &mut [Step]) -> S
-    ensures files { files result ≡ files source }
-    ensures promise { Promise lost S.Source.steps (files source) profile source result steps.old steps.new }
+    ensures files { S.files result ≡ S.files source }
+    ensures promise { Promise S.lost S.outcomes (S.files source) profile source result steps.old steps.new }
 {
     let mut run = Run::open(source, profile);
     for step in steps.iter_mut() {
@@ -45,13 +45,13 @@ pub fn perform<S: Source>(source: S, profile: Profile, steps: &mut [Step]) -> S
 
 /// Makes one call.
 fn make<S: Source>(run: &mut Run<S>, step: &mut Step)
-    requires { Kept (files run.old.source) run.old.profile run.old.sheet }
-    ensures files { files run.new.source ≡ files run.old.source }
+    requires { Kept (S.files run.old.source) run.old.profile run.old.sheet }
+    ensures files { S.files run.new.source ≡ S.files run.old.source }
     ensures profile { run.new.profile ≡ run.old.profile }
-    ensures kept { Kept (files run.old.source) run.old.profile run.new.sheet }
+    ensures kept { Kept (S.files run.old.source) run.old.profile run.new.sheet }
     ensures same { SameCall step.old step.new }
-    ensures moves { Moves (files run.old.source) run.old.profile (moment_of run.old.sheet run.old.closed (lost run.old.source)) (event step.old step.new) (moment_of run.new.sheet run.new.closed (lost run.new.source)) }
-    ensures handles { Handles S.Source.steps (moment_of run.old.sheet run.old.closed (lost run.old.source)) (event step.old step.new) run.old.source run.new.source }
+    ensures moves { Moves (S.files run.old.source) run.old.profile (moment_of run.old.sheet run.old.closed (S.lost run.old.source)) (event step.old step.new) (moment_of run.new.sheet run.new.closed (S.lost run.new.source)) }
+    ensures handles { Handles S.outcomes (moment_of run.old.sheet run.old.closed (S.lost run.old.source)) (event step.old step.new) run.old.source run.new.source }
 {
     match step {
         Step::Judge {

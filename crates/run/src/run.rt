@@ -36,7 +36,7 @@ impl<S: Source> Run<S> {
     pub fn open(source: S, profile: Profile) -> Run<S>
         ensures parts { (result.source ≡ source) × (result.profile ≡ profile) × (result.closed ≡ false) }
         ensures blank { Blank result.sheet }
-        ensures kept { Kept (files source) profile result.sheet }
+        ensures kept { Kept (S.files source) profile result.sheet }
     {
         Run {
             source,
@@ -48,12 +48,12 @@ impl<S: Source> Run<S> {
 
     /// Reads a file whole to the buffer's start, and sets all its lines. Judging a file again is allowed.
     pub fn judge(&mut self, file: u8, buffer: &mut [u8]) -> Result<(), JudgeRefusal>
-        ensures files { files self.new.source ≡ files self.old.source }
-        ensures lasts { lost self.old.source ≡ true → lost self.new.source ≡ true }
+        ensures files { S.files self.new.source ≡ S.files self.old.source }
+        ensures lasts { S.lost self.old.source ≡ true → S.lost self.new.source ≡ true }
         ensures same { (self.new.profile ≡ self.old.profile) × (self.new.closed ≡ self.old.closed) }
-        ensures judges { Judges self.old.profile.kind self.old.profile.declared (files self.old.source file) self.old.closed (lost self.old.source) (lost self.new.source) file buffer.old buffer.new self.old.sheet self.new.sheet result }
-        ensures reads { self.old.closed ≡ false → Ready file buffer.old → JudgeReads steps file self.old.source result self.new.source }
-        ensures lawful { Kept (files self.old.source) self.old.profile self.old.sheet → Kept (files self.old.source) self.old.profile self.new.sheet × Judging (files self.old.source) (moment_of self.old.sheet self.old.closed (lost self.old.source)) file buffer.old buffer.new result (moment_of self.new.sheet self.new.closed (lost self.new.source)) }
+        ensures judges { Judges self.old.profile.kind self.old.profile.declared (S.files self.old.source file) self.old.closed (S.lost self.old.source) (S.lost self.new.source) file buffer.old buffer.new self.old.sheet self.new.sheet result }
+        ensures reads { self.old.closed ≡ false → Ready file buffer.old → JudgeReads S.outcomes file self.old.source result self.new.source }
+        ensures lawful { Kept (S.files self.old.source) self.old.profile self.old.sheet → Kept (S.files self.old.source) self.old.profile self.new.sheet × Judging (S.files self.old.source) (moment_of self.old.sheet self.old.closed (S.lost self.old.source)) file buffer.old buffer.new result (moment_of self.new.sheet self.new.closed (S.lost self.new.source)) }
         ensures still { (self.old.closed ≡ false → Ready file buffer.old → ⊥) → self.new.source ≡ self.old.source }
     {
         if self.closed {
@@ -70,7 +70,7 @@ impl<S: Source> Run<S> {
     /// The line of a case and a file, also after a close.
     pub fn ask(&self, case: u8, file: u8) -> Result<Line, AskRefusal>
         ensures asks { Asks self.now.sheet case file result }
-        ensures lawful { Kept (files self.now.source) self.now.profile self.now.sheet → Asking (files self.now.source) self.now.profile (moment_of self.now.sheet self.now.closed (lost self.now.source)) case file result }
+        ensures lawful { Kept (S.files self.now.source) self.now.profile self.now.sheet → Asking (S.files self.now.source) self.now.profile (moment_of self.now.sheet self.now.closed (S.lost self.now.source)) case file result }
     {
         match self.sheet.line(case, file) {
             Some(line) => Ok(line),
@@ -82,7 +82,7 @@ impl<S: Source> Run<S> {
     pub fn close(&mut self) -> Result<Summary, CloseRefusal>
         ensures same { (self.new.source ≡ self.old.source) × (self.new.profile ≡ self.old.profile) × (self.new.sheet ≡ self.old.sheet) }
         ensures closes { Closes self.old.sheet self.old.closed self.new.closed result }
-        ensures lawful { Kept (files self.old.source) self.old.profile self.old.sheet → Closing (files self.old.source) self.old.profile (moment_of self.old.sheet self.old.closed (lost self.old.source)) result (moment_of self.new.sheet self.new.closed (lost self.new.source)) }
+        ensures lawful { Kept (S.files self.old.source) self.old.profile self.old.sheet → Closing (S.files self.old.source) self.old.profile (moment_of self.old.sheet self.old.closed (S.lost self.old.source)) result (moment_of self.new.sheet self.new.closed (S.lost self.new.source)) }
     {
         if self.closed {
             return Err(CloseRefusal::Closed);

@@ -43,6 +43,11 @@ formed file wanted have before xs ready l w h =
 pub asks : {S : Type 0} (steps : S → ℕ → ℕ → ℕ → S → Type 0) {s t : S} {file have wanted : ℕ} → wanted ≡ min (32767 - have) 255 → steps s file have wanted t → steps s file have (min (32767 - have) 255) t
 asks steps {s = s} {t = t} {file = file} {have = have} e h = subst (λ w. steps s file have w t) e h
 
+-- the same with what the read answered
+pub tells : {S : Type 0} (outcomes : S → ℕ → ℕ → ℕ → Result Answer Fault → S → Type 0) {s t : S} {file have wanted : ℕ} {given answer : Result Answer Fault}
+    → wanted ≡ min (32767 - have) 255 → outcomes s file have wanted given t → given ≡ answer → outcomes s file have (min (32767 - have) 255) answer t
+tells outcomes {s = s} {t = t} {file = file} {have = have} {given = given} e h d = subst (λ r. outcomes s file have (min (32767 - have) 255) r t) d (subst (λ w. outcomes s file have w given t) e h)
+
 not_lost : (lost₀ lost : Bool) → (lost₀ ≡ true → lost ≡ true) → lost ≡ false → lost₀ ≡ false
 not_lost true lost h e = sym (h refl) ∙ e
 not_lost false lost h e = refl

@@ -1,3 +1,4 @@
 pub mod Numbers
 pub mod Reads
 pub mod Whole
+pub mod Outcomes

@@ -1,9 +1,11 @@
 //! What a source of card files means, by ghost members, and what one read of it may answer.
 //! Every source is proved against this one contract, and what reads a source is proved from it alone.
-ghost use Rattle.std.specs.Prelude.{◌≡◌, ℕ, Bool, true, MatchBool};
+ghost use Rattle.std.specs.Prelude.{◌≡◌, ℕ, Bool, true, MatchBool, Result};
 ghost use Rattle.card.specs.Cards.{Files, Short};
 ghost use Rattle.source.specs.Reads.{WellFormed, Reads};
 ghost use Rattle.source.specs.Numbers.{of_fault};
+ghost use Rattle.source.specs.declared.read.Answer.{Answer};
+ghost use Rattle.source.specs.declared.read.Fault.{Fault};
 
 use card::EF_SOD;
 
@@ -58,6 +60,9 @@ pub trait Source {
     /// What one well-formed read of a file, from a place on, of so many bytes wanted, makes of the source itself.
     ghost steps: { Self → ℕ → ℕ → ℕ → Self → Type 0 };
 
+    /// What such a read answers, and what it makes of the source then.
+    ghost outcomes: { Self → ℕ → ℕ → ℕ → Result Answer Fault → Self → Type 0 };
+
     /// Reads at most `wanted` bytes of a file from a place on to the buffer's start. The source chooses how many, and when its link is lost.
     fn read(
         &mut self,
@@ -70,6 +75,7 @@ pub trait Source {
         ensures lasts { lost self.old ≡ true → lost self.new ≡ true }
         ensures reads { Reads (files self.old file) (lost self.old) (lost self.new) file place wanted buffer.old buffer.new result }
         ensures steps { WellFormed file wanted buffer.old → steps self.old file place wanted self.new }
+        ensures outcomes { WellFormed file wanted buffer.old → outcomes self.old file place wanted result self.new }
         ensures still { (WellFormed file wanted buffer.old → ⊥) → self.new ≡ self.old };
 }
 

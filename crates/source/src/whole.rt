@@ -2,6 +2,7 @@
 //! A short answer is not the end: reading goes on until nothing comes, the file is absent, or it can have no more bytes.
 ghost use Rattle.std.specs.Prelude.{◌≡◌, ℕ, ◌≤◌, true, length};
 ghost use Rattle.source.specs.Whole.{Ready, Wholly, ReadsOn};
+ghost use Rattle.source.specs.Outcomes.{ReadsWhole};
 ghost use Rattle.source.specs.Numbers.{of_whole};
 
 use crate::read::{Answer, Fault, Loss, MOST_WANTED, Source};
@@ -47,6 +48,7 @@ pub fn read_whole<S: Source>(
     ensures lasts { S.lost source.old ≡ true → S.lost source.new ≡ true }
     ensures wholly { Wholly (S.files source.old file) (S.lost source.old) (S.lost source.new) file buffer.old buffer.new result }
     ensures reads { Ready file buffer.old → ReadsOn S.steps file 0 source.old source.new }
+    ensures outcome { Ready file buffer.old → ReadsWhole S.outcomes file 0 source.old result source.new }
     ensures still { (Ready file buffer.old → ⊥) → source.new ≡ source.old }
 {
     if file > EF_SOD {
@@ -65,6 +67,7 @@ fn read_on<S: Source>(source: &mut S, file: u8, buffer: &mut [u8]) -> Result<Ans
     ensures lasts { S.lost source.old ≡ true → S.lost source.new ≡ true }
     ensures wholly { Wholly (S.files source.old file) (S.lost source.old) (S.lost source.new) file buffer.old buffer.new result }
     ensures reads { ReadsOn S.steps file 0 source.old source.new }
+    ensures outcome { ReadsWhole S.outcomes file 0 source.old result source.new }
 {
     let mut have: u16 = 0;
     while have < LONGEST {

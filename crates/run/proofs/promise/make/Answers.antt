@@ -31,7 +31,7 @@ returns-in-Judge g c =
       kept = law.0;
       same = subst (λ z. SameCall z (Judge file (with_items c.in-Judge.buffer after) (Some answer))) (sym c.in-Judge.is) refl;
       moves = subst (λ z. Judging files from file z (vec_items (with_items c.in-Judge.buffer after)) answer to) was (subst (λ z. Judging files from file before z answer to) (sym filled) law.1);
-      handles = subst (λ z. (run.closed ≡ false → Ready file z → JudgeReads m.steps file run.source answer run'.source) × ((run.closed ≡ false → Ready file z → ⊥) → run'.source ≡ run.source)) was (e.reads, e.still);
+      handles = subst (λ z. (run.closed ≡ false → Ready file z → JudgeReads m.outcomes file run.source answer run'.source) × ((run.closed ≡ false → Ready file z → ⊥) → run'.source ≡ run.source)) was (e.reads, e.still);
     }
 
 pub returns-in-Ask : goal.returns-in-Ask

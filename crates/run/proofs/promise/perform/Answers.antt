@@ -41,7 +41,7 @@ loop-step-preserved g c =
       kept,
       rest_more xs ys i x y h v.1 v.5 read,
       same_turn xs ys i x y h v.1 v.5 read v.6 k.same,
-      runs_turn xs ys i x y h v.1 v.5 read m.lost m.steps files profile (new_run (m.lost c.open-run.result.source)) from to c.open-run.result.source run.source run'.source
+      runs_turn xs ys i x y h v.1 v.5 read m.lost m.outcomes files profile (new_run (m.lost c.open-run.result.source)) from to c.open-run.result.source run.source run'.source
           v.7 moves k.handles refl,
     )
 
@@ -60,12 +60,12 @@ returns g c =
     let ex : take i xs ≡ xs = take_all i xs c.loop-step-test.false in
     let ey : take i ys ≡ ys = take_all i ys (omega arith) in
     let same : SameCalls xs ys = subst (λ z. SameCalls z ys) ex (subst (λ z. SameCalls (take i xs) z) ey v.6) in
-    let ran = subst (λ z. Runs m.lost m.steps (m.files opened.source) opened.profile (new_run (m.lost opened.source)) opened.source z last c.loop-step.run.source)
+    let ran = subst (λ z. Runs m.lost m.outcomes (m.files opened.source) opened.profile (new_run (m.lost opened.source)) opened.source z last c.loop-step.run.source)
     (ap (λ z. history z (take i ys)) ex ∙ ap (λ z. history xs z) ey) v.7 in
-    let from-source = subst (λ z. Runs m.lost m.steps (m.files z) c.args.profile (new_run (m.lost z)) z (history xs ys) last c.loop-step.run.source) o.0
-    (subst (λ z. Runs m.lost m.steps (m.files opened.source) z (new_run (m.lost opened.source)) opened.source (history xs ys) last c.loop-step.run.source) o.1 ran) in
-    let runs = subst (λ z. Runs m.lost m.steps (m.files source) c.args.profile (new_run (m.lost source)) source (history xs ys) last z) (sym back) from-source in
-    let leads = runs_lead m.lost m.steps (m.files source) c.args.profile (new_run (m.lost source)) last source c.into_source.result (history xs ys) runs in
+    let from-source = subst (λ z. Runs m.lost m.outcomes (m.files z) c.args.profile (new_run (m.lost z)) z (history xs ys) last c.loop-step.run.source) o.0
+    (subst (λ z. Runs m.lost m.outcomes (m.files opened.source) z (new_run (m.lost opened.source)) opened.source (history xs ys) last c.loop-step.run.source) o.1 ran) in
+    let runs = subst (λ z. Runs m.lost m.outcomes (m.files source) c.args.profile (new_run (m.lost source)) source (history xs ys) last z) (sym back) from-source in
+    let leads = runs_lead m.lost m.outcomes (m.files source) c.args.profile (new_run (m.lost source)) last source c.into_source.result (history xs ys) runs in
     record {
       files = ap m.files back ∙ v.2 ∙ ap m.files o.0;
       promise = record {

@@ -18,5 +18,5 @@ invariant-loop-step g l =
     × Kept files profile l.run.sheet
     × (drop l.step-index l.steps ≡ drop l.step-index l.initial.steps)
     × SameCalls done (take l.step-index l.steps)
-    × Runs m.lost m.steps files profile (new_run (m.lost l.initial.run.source)) l.initial.run.source (history done (take l.step-index l.steps))
+    × Runs m.lost m.outcomes files profile (new_run (m.lost l.initial.run.source)) l.initial.run.source (history done (take l.step-index l.steps))
     (moment_of l.run.sheet l.run.closed (m.lost l.run.source)) l.run.source

@@ -1,6 +1,6 @@
-use Rattle.std.proofs.Common.{◌≡◌, ◌-◌, true, false, ◌++◌, length, take, drop, Ok, sym, refl, ap, ◌∙◌, subst, arith, rules}
+use Rattle.std.proofs.Common.{◌≡◌, ◌-◌, true, false, cond, ◌++◌, length, take, drop, Ok, sym, refl, ap, ◌∙◌, subst, arith, rules}
 use Rattle.source.specs.Reads.{Reads}
-use Rattle.source.specs.declared.read.Answer.TheVariants.{Bytes}
+use Rattle.source.specs.declared.read.Answer.TheVariants.{Absent, Bytes}
 use Rattle.changed.specs.Changes.{laid_on, removed, with_settings}
 use Rattle.changed.proofs.Laying.{laid_brings}
 use Rattle.changed.proofs.changed.ChangedSource.read.Goals as goal
@@ -24,5 +24,6 @@ returns-in-Bytes g c =
       lasts = h.lasts;
       reads = (r.0, r.1, laid_brings cs (m.files s.below file) file c.args.place c.args.wanted n c.args.buffer.now mid (take (n - 0) mid) _ stays r.2 (ap (λ k. take k mid) whole) after);
       steps = λ w. (h.steps w, refl, refl);
+      outcomes = λ w. ((Ok c.in_ok-answer.answer, h.outcomes w, ap Ok (sym c.in-Bytes.is) ∙ ap (λ b. Ok (cond b Absent c.in_ok-answer.answer)) (sym stays)), refl, refl);
       still = λ w. absurd (w r.0);
     }

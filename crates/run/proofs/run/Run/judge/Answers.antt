@@ -44,7 +44,7 @@ returns g c =
       lasts = h.lasts;
       same = (refl, refl);
       judges = j;
-      reads = λ _ r. record { outcome = Ok c.in_ok-answer.answer; reads = h.reads r; comes = tt };
+      reads = λ _ r. record { outcome = Ok c.in_ok-answer.answer; reads = h.outcome r; comes = tt };
       lawful = lawful_judge (m.files run.source) run.profile run.closed run.closed (m.lost run.source) (m.lost source') file before after run.sheet sheet' refl link (Ok tt) j;
       still = λ n. h.still (n unclosed);
     }
@@ -87,7 +87,7 @@ returns-in_err-answer g c =
       lasts = h.lasts;
       same = (refl, refl);
       judges = j;
-      reads = λ _ r. record { outcome = Err refusal; reads = h.reads r; comes = refl };
+      reads = λ _ r. record { outcome = Err refusal; reads = h.outcome r; comes = refl };
       lawful = lawful_judge (m.files run.source) run.profile run.closed run.closed (m.lost run.source) (m.lost source') file before after run.sheet run.sheet refl link (Err (Unread refusal)) j;
       still = λ n. h.still (n unclosed);
     })

@@ -13,8 +13,4 @@ fn main() {
     println!("cargo:rustc-link-search=native={folder}");
     // Not bundled into the library of this package: its objects are without bitcode, and LTO would ask for it.
     println!("cargo:rustc-link-lib=static:-bundle=c_api");
-    if let Ok(kit) = env::var("RATTLE_KIT") {
-        println!("cargo:rustc-link-search=native={kit}/lib");
-        println!("cargo:rustc-link-lib=static:-bundle=rattle_c");
-    }
 }

@@ -2,13 +2,12 @@
 # Builds the library and both callers, and runs them on sample cards; what they print must be examples/expected.
 set -eu
 cd "$(dirname "$0")/.."
-kit=$(dirname "$(dirname "$(rt doc)")")
 out=$(mktemp -d)
 trap 'rm -rf "$out"' EXIT
-rt staticlib c_api > "$out/log" 2>&1 || { tail "$out/log"; exit 1; }
-lib=target/staticlib
-cc -O2 -Wall -Wextra -Iinclude examples/sheet.c "$lib/libc_api.a" "$kit/lib/librattle_c.a" -o "$out/sheet_c"
-rustc -O --edition 2024 examples/sheet.rs -o "$out/sheet_rs" -L "$lib" -L "$kit/lib" -l static=c_api -l static=rattle_c
+(cd crates/c_api && rt lib) > "$out/log" 2>&1 || { tail "$out/log"; exit 1; }
+lib=crates/c_api/out
+cc -O2 -Wall -Wextra -Iinclude examples/sheet.c "$lib/libc_api.a" -o "$out/sheet_c"
+rustc -O --edition 2024 examples/sheet.rs -o "$out/sheet_rs" -L "$lib" -l static=c_api
 
 # A TD3 card with EF.COM, DG1, DG2 and EF.SOD; the same with 7 for 6 behind the number; a cut one; an empty one.
 card() {

@@ -1,12 +1,12 @@
 -- From what was found of a file's structure to what its lines say.
-use Rattle.std.proofs.Common.{◌≡◌, ℕ, ◌<◌, ◌≤◌, Bool, true, false, List, [], length, drop, Some, None, MatchBool, Option, sym, refl, ap, subst, arith}
+use Rattle.std.proofs.Common.{◌≡◌, ℕ, ◌<◌, ◌≤◌, Bool, true, false, List, [], length, drop, Some, None, MatchBool, Option, refl, ap, subst, arith}
 use Rattle.card.specs.Lines.{Gates}
 use Rattle.card.specs.declared.line.Line.{Line}
 use Rattle.card.specs.declared.line.Line.TheVariants.{Open, Pass, Fail, NotApplicable, Blocked}
 use Rattle.object.specs.Objects.{Begins}
 use Rattle.object.specs.Trees.{Tiled, TiledOnce, NowhereTiled, First}
 use Rattle.object.proofs.Laws.{same, begins_long}
-use Rattle.cases.specs.Templates.{One, Off, Opens}
+use Rattle.cases.specs.Templates.{One, Opens}
 use Rattle.cases.specs.Structures.{Framed, Structured, Stopped, value_of, Sound}
 use Rattle.cases.specs.declared.structure.Opened.{Opened}
 use Rattle.cases.specs.declared.structure.Structure.{Structure}

@@ -1,5 +1,5 @@
 -- Case 2: the template's tag, its length and its end.
-use Rattle.std.proofs.Common.{◌≡◌, ℕ, suc, ◌+◌, ◌<◌, ◌≤◌, min, List, [], ◌∷◌, ◌++◌, length, get_or, drop, Some, None, Option, sym, refl, ap, ◌∙◌, subst, inl, inr, append-nil, arith, length-append, length-drop, drop-drop, lt-ltb}
+use Rattle.std.proofs.Common.{◌≡◌, ℕ, ◌+◌, ◌<◌, min, List, [], ◌∷◌, ◌++◌, length, get_or, drop, Some, None, Option, sym, refl, ap, ◌∙◌, subst, inl, append-nil, arith, length-append, drop-drop, lt-ltb}
 use lib.Seq.{drop-append_seam}
 use Rattle.object.specs.Objects.{Begins, ShortTag, tag_bytes, length_bytes, header_size}
 use Rattle.object.specs.Reading.{length_of}

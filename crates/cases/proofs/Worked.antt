@@ -1,18 +1,18 @@
 -- The worked rows follow from the definitions.
-use Rattle.std.proofs.Common.{◌≡◌, ℕ, ◌+◌, ◌<◌, ◌≤◌, min, true, List, [], ◌∷◌, ◌++◌, length, Some, None, codes, Option, sym, refl, ap, ◌∙◌, subst, inl, inr, arith, rules}
+use Rattle.std.proofs.Common.{◌≡◌, ℕ, ◌+◌, min, List, [], ◌∷◌, ◌++◌, length, Some, codes, Option, sym, refl, ap, ◌∙◌, subst, inl, inr, arith, rules}
 use Rattle.card.specs.Lines.{Says, Gates}
 use Rattle.card.specs.declared.line.Line.{Line}
 use Rattle.card.specs.declared.line.Line.TheVariants.{Open, Pass, Fail, NotApplicable, Blocked}
-use Rattle.object.specs.Objects.{Begins, ShortTag, Unread, header_size, length_bytes, nests}
+use Rattle.object.specs.Objects.{Begins, Unread, header_size, length_bytes, nests}
 use Rattle.object.specs.Reading.{Head, length_of, header_of}
-use Rattle.object.specs.Trees.{Trees, none, more, nested, Tiled, Broken, here, inside, later, First}
+use Rattle.object.specs.Trees.{none, more, nested, Tiled, Broken, here, First}
 use Rattle.object.proofs.Laws.{len_law, same, begins_head, begins_long}
 use Rattle.object.proofs.Trees.{sound, low}
 use Rattle.cases.specs.Templates.{One, Off, other_tag, no_length, other_end}
 use Rattle.cases.specs.Structures.{Framed}
-use Rattle.cases.specs.Rows.{IsTemplateLine, IsTilingLine, Nine, Six, StructureRows, ZoneRows, Rows}
+use Rattle.cases.specs.Rows.{IsTemplateLine, Six, StructureRows, ZoneRows, Rows}
 use Rattle.cases.specs.declared.structure.Structure.{Structure}
-use Rattle.cases.proofs.Templates.{fails, off_length, off_end}
+use Rattle.cases.proofs.Templates.{fails, off_length}
 use Rattle.cases.proofs.Tags.{tag_short}
 
 -- a judged line, where its rule holds and where it does not

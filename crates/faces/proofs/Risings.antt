@@ -1,5 +1,5 @@
 -- Features in rising order, and what stands among them: one object read, and the end.
-use Rattle.std.proofs.Common.{◌≡◌, ℕ, ◌+◌, ◌<◌, Bool, true, false, ◌⊎◌, List, [], ◌∷◌, length, get_or, drop, MatchBool, sym, ◌∙◌, subst, inr, ⊎_elim, add-one, arith, drop-cons}
+use Rattle.std.proofs.Common.{◌≡◌, ℕ, ◌+◌, ◌<◌, Bool, true, false, List, [], ◌∷◌, length, get_or, drop, MatchBool, sym, ◌∙◌, subst, inr, ⊎_elim, add-one, arith, drop-cons}
 use Rattle.object.specs.Objects.{Begins, Unread}
 use Rattle.object.proofs.Laws.{same, begins_long}
 use Rattle.faces.specs.declared.features.Feature.{Feature}

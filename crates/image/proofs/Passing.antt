@@ -1,5 +1,5 @@
 -- Going through a row, field by field: what has been passed, and where it ends or breaks.
-use Rattle.std.proofs.Common.{◌≡◌, ℕ, ◌+◌, ◌-◌, ◌<◌, ◌≤◌, Bool, true, false, cond, eqb, List, [], ◌∷◌, ◌++◌, length, Some, None, Ok, Err, sym, refl, ap, ◌∙◌, subst, inl, inr, arith, length-append, rules}
+use Rattle.std.proofs.Common.{◌≡◌, ℕ, ◌+◌, ◌-◌, ◌<◌, ◌≤◌, true, false, cond, eqb, List, [], ◌∷◌, length, Some, None, Err, sym, ap, ◌∙◌, subst, inr, arith, length-append, rules}
 use Rattle.std.proofs.lemmas.List.{nil_from_length}
 use Rattle.image.specs.Images.{Field, field, written, Lawful, Rising, IsImage, Breaks, here, later, file_of, files_in}
 use Rattle.image.specs.Checks.{Starts, ImageOf, BrokenAt, Checks, StandsFor}

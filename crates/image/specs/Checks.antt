@@ -1,5 +1,5 @@
 -- What checking bytes promises: which files they have as an image, or where they break.
-use Rattle.std.specs.Prelude.{◌≡◌, ℕ, ◌≤◌, ◌⊎◌, List, [], ◌∷◌, length, Some, None, Ok, Err, Option, Result, ◌≢◌}
+use Rattle.std.specs.Prelude.{◌≡◌, ℕ, ◌≤◌, ◌⊎◌, List, length, Some, None, Ok, Err, Option, Result, ◌≢◌}
 use Rattle.card.specs.Cards.{Files}
 use Rattle.card.specs.Refusals.{Under, no_other}
 use Rattle.image.specs.Images.{Field, field, files_in, file_of, IsImage, Breaks}

@@ -1,5 +1,5 @@
 -- The object at a position of the bytes, cut out of them.
-use Rattle.std.proofs.Common.{◌≡◌, ℕ, ◌+◌, ◌-◌, ◌<◌, ◌≤◌, List, ◌++◌, length, take, drop, sym, refl, ap, ◌∙◌, arith, length-append, length-drop, take-append-drop, length-take-le, drop-drop}
+use Rattle.std.proofs.Common.{◌≡◌, ℕ, ◌+◌, ◌-◌, ◌<◌, ◌≤◌, List, ◌++◌, length, take, drop, sym, ap, ◌∙◌, arith, length-append, length-drop, take-append-drop, length-take-le, drop-drop}
 use Rattle.std.proofs.lemmas.Slice.{between_is}
 use Rattle.object.specs.Reading.{Head}
 use Rattle.object.specs.Objects.{Begins, LawfulTag, tag_bytes, length_bytes, header_size}

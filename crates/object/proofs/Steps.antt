@@ -1,9 +1,9 @@
 -- One object read, over the readers before and after it.
-use Rattle.std.proofs.Common.{◌≡◌, ℕ, ◌+◌, ◌-◌, ◌<◌, ◌≤◌, Bool, true, false, eqb, List, [], length, take, drop, MatchBool, sym, refl, ap, ◌∙◌, arith, length-drop, true-eqb, false-eqb}
+use Rattle.std.proofs.Common.{◌≡◌, ℕ, ◌+◌, ◌-◌, ◌<◌, ◌≤◌, Bool, true, false, eqb, List, [], length, take, drop, MatchBool, sym, ap, ◌∙◌, arith, length-drop, true-eqb, false-eqb}
 use borrow.Author.Tests.{both_ways}
 use Rattle.object.specs.declared.object.Object.{Object}
 use Rattle.object.specs.declared.reader.Reader.{Reader}
-use Rattle.object.specs.Objects.{Begins, Lacks, nests}
+use Rattle.object.specs.Objects.{nests}
 use Rattle.object.specs.Trees.{Tiled, First}
 use Rattle.object.specs.Readers.{Taken, Step, rest_of, is_nested_object, value, place, tag}
 use Rattle.object.proofs.Laws.{begins_long}

@@ -1,5 +1,5 @@
 -- Trees that tile a range, and places at which an object is broken.
-use Rattle.std.proofs.Common.{◌≡◌, ℕ, ◌+◌, ◌-◌, ◌<◌, ◌≤◌, true, false, ◌⊎◌, List, [], ◌∷◌, ◌++◌, length, sym, refl, ap, ◌∙◌, inl, inr, append_assoc, arith}
+use Rattle.std.proofs.Common.{◌≡◌, ℕ, ◌+◌, ◌-◌, ◌<◌, ◌≤◌, true, false, ◌⊎◌, List, [], ◌∷◌, ◌++◌, length, sym, refl, ap, inl, inr, append_assoc, arith}
 use borrow.Author.Tests.{both_ways}
 use Rattle.object.specs.Objects.{Begins, Unread, header_size, nests}
 use Rattle.object.specs.Trees.{Tree, Trees, plain, nested, none, more, write, writes, Lawful, AllLawful, Tiled, Broken, here, inside, later, First, NowhereTiled}

@@ -1,24 +1,24 @@
 -- From the laws of the files to those of a whole card.
-use Rattle.std.proofs.Common.{◌≡◌, ℕ, zero, suc, ◌+◌, ◌<◌, ◌≤◌, Bool, true, false, cond, not, ◌&&◌, ◌||◌, eqb, leb, ◌⊎◌, List, length, Some, None, MatchBool, Option, sym, refl, ap, ◌∙◌, subst, inl, inr, ⊎_elim, arith, length-set, ne_eqb}
+use Rattle.std.proofs.Common.{◌≡◌, ℕ, zero, suc, ◌+◌, ◌<◌, ◌≤◌, Bool, true, false, ◌&&◌, eqb, ◌⊎◌, List, length, Some, None, MatchBool, Option, sym, refl, ap, ◌∙◌, subst, inl, inr, ⊎_elim, arith, length-set, ne_eqb}
 use mathlib.Core.Path.{fun_ext}
 use Rattle.std.specs.Option.{option_map}
 use Rattle.std.proofs.lemmas.Bool.{cases_eq}
 use Rattle.std.proofs.lemmas.Bool.Decides.{nat_tests}
 use Rattle.card.specs.Cards.{Files, Short, template_tag_of}
 use Rattle.card.specs.Profiles.{Lawful, declares, required}
-use Rattle.card.specs.Sheets.{Among, HasLine, CardLines}
+use Rattle.card.specs.Sheets.{CardLines}
 use Rattle.cases.specs.Groups.{AreStructureLines}
 use Rattle.object.specs.Trees.{Trees, writes, AllLawful}
 use Rattle.verdict.specs.Verdicts.{Lines, structure_of, common_of, zone_of, faces_of, AreFileLines, CardGives}
 use Rattle.record.specs.Clean.{Clean, CleanStructure, CleanCommon, CleanZone, CleanFaces}
-use Rattle.record.specs.Parts.{object, Writes, TreeGroup, WritesTrees, WritesFree, WritesSecurity, WritesCommon, Order, common_value, security_value}
-use Rattle.record.specs.Zones.{Fields, LawfulFields}
+use Rattle.record.specs.Parts.{object, Writes, TreeGroup, WritesTrees, WritesFree, WritesSecurity, WritesCommon, common_value, security_value}
+use Rattle.record.specs.Zones.{Fields}
 use Rattle.record.specs.ZoneWriting.{zone_value, WritesZone}
-use Rattle.record.specs.Faces.{Face, LawfulFaces, faces_value, WritesFaces}
-use Rattle.record.specs.Laws.{Iff, Fits, SomePart, OnePart, StructureLaws, CommonLaws}
+use Rattle.record.specs.Faces.{Face, faces_value, WritesFaces}
+use Rattle.record.specs.Laws.{Fits, OnePart, StructureLaws, CommonLaws}
 use Rattle.record.specs.ZoneLaws.{ZoneLaws}
 use Rattle.record.specs.FaceLaws.{FaceLaws}
-use Rattle.record.specs.Records.{Record, tree_group, Given, template, written, LawfulRecord, WritesCard, WrittenUnder}
+use Rattle.record.specs.Records.{Record, tree_group, Given, template, written, WritesCard, WrittenUnder}
 use Rattle.record.specs.CardLaws.{AllShort, CleanCard, CardChanged, CardLaws}
 
 -- which sort of file a number is

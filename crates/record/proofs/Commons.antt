@@ -13,7 +13,7 @@ use Rattle.cases.specs.declared.structure.Structure.{Structure}
 use Rattle.cases.proofs.Tags.{tag_short}
 use Rattle.record.specs.Clean.{Clean, CleanCommon}
 use Rattle.record.specs.Parts.{object, common_value, Order, WritesCommon}
-use Rattle.record.specs.Laws.{Iff, SomePart, CommonLaws}
+use Rattle.record.specs.Laws.{SomePart, CommonLaws}
 use Rattle.record.proofs.Tags.{lawful_tag}
 use Rattle.record.proofs.Gates.{passes, clean, opens, opened}
 use Rattle.record.proofs.Wholes.{holds, made, through, through_back, object_alone, alone_object, begins_object, begins_is}

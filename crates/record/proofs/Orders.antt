@@ -1,8 +1,8 @@
 -- An order of the declared tags, as a record has it and as the cases have it.
-use Rattle.std.proofs.Common.{◌≡◌, ℕ, zero, suc, ◌<◌, ◌≤◌, true, ◌⊎◌, List, length, get_or, sym, ap, ◌∙◌, subst, inl, inr, ⊎_elim, arith}
+use Rattle.std.proofs.Common.{◌≡◌, ℕ, zero, suc, ◌<◌, true, ◌⊎◌, List, length, get_or, sym, ap, ◌∙◌, subst, inl, inr, ⊎_elim, arith}
 use Rattle.std.proofs.lemmas.Bool.{cases_lt, cases_eq}
 use Rattle.card.specs.Sets.{has}
-use Rattle.common.specs.Tags.{group_tag, GroupTag, Sound, SetOf}
+use Rattle.common.specs.Tags.{group_tag, Sound, SetOf}
 use Rattle.common.proofs.Members.{tag_apart, one_set}
 use Rattle.record.specs.Parts.{Order}
 

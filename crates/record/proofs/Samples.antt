@@ -1,15 +1,15 @@
 -- The sample records are lawful and write their cards.
-use Rattle.std.proofs.Common.{◌≡◌, ℕ, zero, suc, ◌+◌, ◌-◌, ◌/◌, ◌%◌, ◌^◌, ◌<◌, ◌≤◌, Bool, true, false, ◌&&◌, eqb, leb, ◌⊎◌, List, [], ◌∷◌, length, get_or, Some, None, Option, sym, refl, ap, ◌∙◌, subst, inl, inr, ⊎_elim, arith, pow_mono}
+use Rattle.std.proofs.Common.{◌≡◌, ℕ, zero, suc, ◌+◌, ◌-◌, ◌/◌, ◌%◌, ◌^◌, ◌<◌, ◌≤◌, Bool, true, false, ◌&&◌, eqb, leb, List, [], ◌∷◌, length, get_or, Some, None, Option, sym, refl, ap, ◌∙◌, subst, inl, inr, ⊎_elim, arith, pow_mono}
 use native.Mathlib.Nat.{div-eq_of_lt}
 use Rattle.std.proofs.lemmas.Bool.{cases_Bool}
 use Rattle.card.specs.Cards.{Short, template_tag_of}
 use Rattle.card.specs.Profiles.{declares}
 use Rattle.card.specs.Sets.{has}
 use Rattle.object.specs.Objects.{nests}
-use Rattle.object.specs.Trees.{AllLawful, more, plain, none}
+use Rattle.object.specs.Trees.{AllLawful}
 use Rattle.record.specs.Faces.{LawfulFaces}
 use Rattle.record.specs.Parts.{Order, TreeGroup}
-use Rattle.record.specs.Records.{tree_group, Given, written, LawfulRecord, WritesCard}
+use Rattle.record.specs.Records.{tree_group, Given, written, WritesCard}
 use Rattle.record.specs.Samples.{sample_face, sample, sample_files, SampleRecords}
 use Rattle.record.specs.Zones.{Fields, LawfulFields}
 use Rattle.record.specs.ZoneSamples.{td1_fields, td2_fields, td3_fields}

@@ -1,5 +1,5 @@
 -- A record for each layout, and the card that it writes, byte by byte.
-use Rattle.std.specs.Prelude.{ℕ, cond, List, [], ◌∷◌, ◌++◌, Some, None, codes, ◌==◌}
+use Rattle.std.specs.Prelude.{ℕ, cond, List, [], ◌∷◌, Some, None, codes, ◌==◌}
 use Rattle.card.specs.Cards.{Files}
 use Rattle.object.specs.Trees.{plain, none, more}
 use Rattle.record.specs.Faces.{Face}

@@ -1,7 +1,7 @@
 -- What an accepted close means, by the laws of records.
-use Rattle.std.proofs.Common.{◌≡◌, ℕ, ◌<◌, ◌≤◌, Bool, true, false, eqb, ◌⊎◌, List, [], ◌∷◌, Some, None, Ok, Err, sym, refl, ap, ◌∙◌, subst, inl, inr, ⊎_elim, arith, rules, eq-eqb}
+use Rattle.std.proofs.Common.{◌≡◌, true, eqb, List, [], ◌∷◌, Some, None, Ok, Err, sym, refl, ◌∙◌, subst, ⊎_elim, arith, rules, eq-eqb}
 use Rattle.card.specs.Cards.{Files}
-use Rattle.card.specs.Sheets.{HasLine, CardLines, count, failing}
+use Rattle.card.specs.Sheets.{count, failing}
 use Rattle.card.specs.declared.line.Line.{Line}
 use Rattle.card.specs.declared.line.Line.TheVariants.{Open, Pass, Fail, NotApplicable, Blocked}
 use Rattle.card.specs.declared.profile.Profile.{Profile}
@@ -9,7 +9,7 @@ use Rattle.record.specs.CardLaws.{AllShort, CleanCard}
 use Rattle.record.specs.Clean.{Clean}
 use Rattle.record.proofs.All.{laws}
 use Rattle.sheet.proofs.Rows.{counted, count_none}
-use Rattle.run.specs.Histories.{Moment, Event, judging, asking, closing, Moves, Leads, Accepted, Counted}
+use Rattle.run.specs.Histories.{Moment, Event, judging, asking, closing, Leads, Accepted, Counted}
 use Rattle.run.specs.Promise.{CloseMeans}
 use Rattle.run.specs.declared.run.Summary.{Summary}
 

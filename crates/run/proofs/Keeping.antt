@@ -1,5 +1,5 @@
 -- What the calls do to the sheet, and to the moment that the run stands for.
-use Rattle.std.proofs.Common.{◌≡◌, ℕ, ◌<◌, ◌≤◌, Bool, true, false, cond, ◌||◌, eqb, ◌⊎◌, List, length, Ok, Err, MatchBool, Option, Result, sym, refl, ap, ◌∙◌, subst, inl, inr, ⊎_elim, arith, eq-eqb, ne_eqb}
+use Rattle.std.proofs.Common.{◌≡◌, ℕ, ◌≤◌, Bool, true, false, cond, ◌||◌, eqb, List, Ok, Err, MatchBool, Result, sym, refl, ap, ◌∙◌, subst, ⊎_elim, eq-eqb, ne_eqb}
 use mathlib.Core.Path.{fun_ext}
 use Rattle.std.proofs.lemmas.Bool.{cases_eq}
 use Rattle.card.specs.Cards.{Files}
@@ -15,11 +15,11 @@ use Rattle.sheet.specs.Tables.{line_in}
 use Rattle.sheet.specs.declared.table.Sheet.{Sheet}
 use Rattle.sheet.specs.declared.tally.Tally.{Tally}
 use Rattle.sheet.proofs.Rows.{count_same}
-use Rattle.verdict.specs.Verdicts.{AreFileLines, HoldsVerdict, Verdict}
+use Rattle.verdict.specs.Verdicts.{AreFileLines, HoldsVerdict}
 use Rattle.verdict.proofs.Cards.{card_lines, card_given, card_held}
 use Rattle.verdict.proofs.Verdicts.{one_verdict, on_a_card}
 use Rattle.run.specs.Calls.{Filled, Judges, Asks, Closes}
-use Rattle.run.specs.Histories.{Moment, new_run, cut_off, shut, Judging, Asking, Counted, Closing}
+use Rattle.run.specs.Histories.{Moment, new_run, Judging, Asking, Counted, Closing}
 use Rattle.run.specs.Keeping.{moment_of, Kept}
 use Rattle.run.specs.declared.refusal.AskRefusal.{AskRefusal}
 use Rattle.run.specs.declared.refusal.CloseRefusal.{CloseRefusal}

@@ -1,5 +1,5 @@
 -- What judge, ask and close do to a run.
-use Rattle.std.specs.Prelude.{◌≡◌, ℕ, ◌<◌, ◌≤◌, Bool, true, false, cond, ◌||◌, List, length, take, Some, None, Ok, Err, Option, Result, ◌==◌}
+use Rattle.std.specs.Prelude.{◌≡◌, ℕ, ◌≤◌, Bool, true, false, cond, ◌||◌, List, length, take, Some, None, Ok, Err, Option, Result, ◌==◌}
 use Rattle.card.specs.Cards.{content}
 use Rattle.card.specs.Refusals.{Unless, Under, no_other, value}
 use Rattle.card.specs.Sets.{has}

@@ -1,5 +1,5 @@
 -- Check digits: values of characters, weights, and the remainder of the weighted sum by 10.
-use Rattle.std.specs.Prelude.{◌≡◌, ℕ, suc, ◌+◌, ◌-◌, ◌*◌, ◌%◌, ◌<◌, cond, ◌&&◌, List, [], ◌∷◌, length, ◌≢◌, nat_le, slice_index, slice_set}
+use Rattle.std.specs.Prelude.{ℕ, suc, ◌+◌, ◌-◌, ◌*◌, ◌%◌, ◌<◌, cond, ◌&&◌, List, [], ◌∷◌, length, ◌≢◌, nat_le, slice_index, slice_set}
 use Rattle.text.specs.Characters.{Digit}
 
 -- a digit has its own value, the letters A to Z have 10 to 35, the filler has 0

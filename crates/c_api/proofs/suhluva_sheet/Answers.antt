@@ -1,5 +1,5 @@
-use Rattle.std.proofs.Common.{◌≡◌, ℕ, ◌≤◌, refl, ◌∙◌, subst, arith}
-use Rattle.card.specs.Sheets.{HasLine, passing, failing, unapplied, blocked}
+use Rattle.std.proofs.Common.{ℕ, ◌≤◌, refl, ◌∙◌, subst, arith}
+use Rattle.card.specs.Sheets.{passing, failing, unapplied, blocked}
 use Rattle.image.specs.Images.{files_in}
 use Rattle.sheet.specs.Tables.{line_in}
 use Rattle.sheet.proofs.Rows.{count_same}

@@ -1,4 +1,4 @@
-use Rattle.std.proofs.Common.{◌≡◌, Bool, true, refl, subst}
+use Rattle.std.proofs.Common.{◌≡◌, true, refl, subst}
 use Rattle.std.specs.Option.{option_map}
 use Rattle.card.specs.Cards.{template_tag_of}
 use Rattle.card.specs.Profiles.{required}

@@ -1,10 +1,7 @@
-use Rattle.std.proofs.Common.{◌≡◌, Bool, true, false, eqb, MatchBool, sym, subst, arith, rules}
+use Rattle.std.proofs.Common.{◌≡◌, Bool, false, eqb, MatchBool, sym, subst, arith, rules}
 use Rattle.std.specs.Option.{option_map}
 use Rattle.card.specs.Cards.{template_tag_of}
 use Rattle.card.specs.Profiles.{required}
-use Rattle.card.specs.declared.line.Line.TheVariants.{Pass}
-use Rattle.cases.specs.Structures.{Structured}
-use Rattle.cases.specs.Groups.{StructuredFree}
 use Rattle.cases.proofs.Structures.{stopped, passed}
 use Rattle.cases.proofs.group.judge_structure.Goals as goal
 

@@ -4,7 +4,7 @@ use Rattle.card.specs.Cards.{template_tag_of}
 use Rattle.card.specs.Lines.{Says}
 use Rattle.card.specs.declared.line.Line.TheVariants.{Pass, Fail, Blocked}
 use Rattle.cases.specs.Templates.{One}
-use Rattle.cases.proofs.Structures.{stopped, passed, within_of}
+use Rattle.cases.proofs.Structures.{stopped, passed}
 use Rattle.cases.proofs.security.judge_security.Goals as goal
 
 pub returns-then-only : goal.returns-then-only

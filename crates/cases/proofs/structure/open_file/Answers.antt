@@ -1,8 +1,6 @@
-use Rattle.std.proofs.Common.{◌≡◌, true, Some, sym, refl, ◌∙◌, subst}
+use Rattle.std.proofs.Common.{◌≡◌, true, sym, refl, ◌∙◌}
 use Rattle.card.specs.Cards.{template_tag_of}
 use Rattle.card.specs.Profiles.{required}
-use Rattle.card.specs.declared.line.Line.TheVariants.{Pass, Fail}
-use Rattle.cases.specs.Structures.{Stopped}
 use Rattle.cases.proofs.Tags.{tag_short}
 use Rattle.cases.proofs.Structures.{opens_within, not_tiled}
 use Rattle.cases.proofs.structure.open_file.Goals as goal

@@ -1,4 +1,4 @@
-use Rattle.std.proofs.Common.{◌≡◌, ◌<◌, length, arith}
+use Rattle.std.proofs.Common.{◌<◌, length, arith}
 use Rattle.cases.proofs.Templates.{fails, off_empty, off_tag, first_is, off_length, off_end, opens_at}
 use Rattle.cases.proofs.template.open_template.Goals as goal
 

@@ -1,5 +1,4 @@
-use Rattle.std.proofs.Common.{◌≡◌, ℕ, ◌+◌, ◌*◌, ◌<◌, length}
-use Rattle.object.specs.Trees.{Tiled, Broken}
+use Rattle.std.proofs.Common.{◌+◌, ◌*◌, length}
 use Rattle.object.specs.Readers.{Goes, rest_of}
 use Rattle.object.proofs.tiling.+read_object_read_objects.Given as goal
 

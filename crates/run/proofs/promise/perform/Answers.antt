@@ -1,4 +1,4 @@
-use Rattle.std.proofs.Common.{◌≡◌, length, get_or, take, sym, refl, ap, ◌∙◌, subst, arith, length-set, take_all}
+use Rattle.std.proofs.Common.{◌≡◌, get_or, take, sym, refl, ap, ◌∙◌, subst, arith, length-set, take_all}
 use Rattle.run.specs.Histories.{Moves, Runs, new_run}
 use Rattle.run.specs.Keeping.{moment_of, Kept}
 use Rattle.run.specs.Steps.{event, history, SameCalls}

@@ -1,4 +1,4 @@
-use Rattle.std.proofs.Common.{◌≡◌, ℕ, ◌-◌, ◌≤◌, length, Ok, ap, ◌∙◌, subst, arith}
+use Rattle.std.proofs.Common.{◌≡◌, ℕ, ◌-◌, ◌≤◌, Ok, ap, ◌∙◌, subst, arith}
 use Rattle.source.specs.Whole.{ReadsOn, full as no_more, last, next}
 use Rattle.source.specs.Outcomes.{ReadsWhole, all_there, none_left, not_there, refused, brought}
 use Rattle.source.specs.declared.read.Answer.TheVariants.{Bytes}

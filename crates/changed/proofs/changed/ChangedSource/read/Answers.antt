@@ -1,6 +1,6 @@
-use Rattle.std.proofs.Common.{◌≡◌, ◌-◌, true, false, cond, ◌++◌, length, take, drop, Ok, sym, refl, ap, ◌∙◌, subst, arith, rules}
+use Rattle.std.proofs.Common.{◌≡◌, ◌-◌, false, cond, ◌++◌, take, drop, Ok, sym, refl, ap, ◌∙◌, subst, arith}
 use Rattle.source.specs.Reads.{Reads}
-use Rattle.source.specs.declared.read.Answer.TheVariants.{Absent, Bytes}
+use Rattle.source.specs.declared.read.Answer.TheVariants.{Absent}
 use Rattle.changed.specs.Changes.{laid_on, removed, with_settings}
 use Rattle.changed.proofs.Laying.{laid_brings}
 use Rattle.changed.proofs.changed.ChangedSource.read.Goals as goal

@@ -1,4 +1,4 @@
-use Rattle.std.proofs.Common.{⊎_elim, arith}
+use Rattle.std.proofs.Common.{arith}
 use Rattle.image.specs.Images.{Lawful}
 use Rattle.image.proofs.Passing.{none_yet, pass, long, out_of_order, unread, all_passed}
 use Rattle.image.proofs.image.Image.check.Goals as goal

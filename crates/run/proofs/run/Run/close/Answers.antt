@@ -1,8 +1,6 @@
-use Rattle.std.proofs.Common.{◌≡◌, Bool, true, eqb, Ok, Err, Result, refl, ap, ◌∙◌}
+use Rattle.std.proofs.Common.{true, eqb, Ok, Err, Result, refl, ap}
 use borrow.Author.Tests.{both_ways}
 use Rattle.run.specs.Calls.{Closes}
-use Rattle.run.specs.Histories.{Closing}
-use Rattle.run.specs.Keeping.{moment_of, Kept}
 use Rattle.run.specs.declared.refusal.CloseRefusal.{CloseRefusal}
 use Rattle.run.specs.declared.refusal.CloseRefusal.TheVariants.{Closed, Unjudged}
 use Rattle.run.specs.declared.run.Summary.{Summary}

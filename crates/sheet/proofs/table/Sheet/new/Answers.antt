@@ -1,4 +1,3 @@
-use Rattle.std.proofs.Common.{replicate}
 use Rattle.std.proofs.lemmas.List.{get_or-replicate}
 use Rattle.card.specs.declared.line.Line.TheVariants.{Open}
 use Rattle.sheet.proofs.Places.{within}

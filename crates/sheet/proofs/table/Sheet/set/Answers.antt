@@ -1,4 +1,4 @@
-use Rattle.std.proofs.Common.{◌≡◌, set, sym, refl, ap, ◌∙◌, subst}
+use Rattle.std.proofs.Common.{set, refl, ap, ◌∙◌}
 use Rattle.sheet.specs.Tables.{line_in}
 use Rattle.sheet.proofs.Writing.{put, put_none}
 use Rattle.sheet.proofs.table.Sheet.set.Goals as goal

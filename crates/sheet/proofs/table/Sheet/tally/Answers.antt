@@ -1,7 +1,6 @@
 use Rattle.std.proofs.Common.{◌∙◌}
 use Rattle.card.specs.Sheets.{passing, failing, unapplied, blocked}
 use Rattle.sheet.proofs.Counting.{sum_table}
-use Rattle.sheet.proofs.Rows.{counted, count_same, count_none}
 use Rattle.sheet.proofs.table.Sheet.tally.Goals as goal
 
 pub returns : goal.returns

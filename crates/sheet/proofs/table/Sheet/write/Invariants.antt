@@ -1,4 +1,4 @@
-use Rattle.std.proofs.Common.{◌≡◌, ℕ, ◌-◌, ◌≤◌, cond, ◌&&◌, eqb, ltb, get_or}
+use Rattle.std.proofs.Common.{◌≡◌, ℕ, ◌-◌, cond, ◌&&◌, eqb, ltb, get_or}
 use Rattle.card.specs.Sheets.{HasLine}
 use Rattle.card.specs.declared.line.Line.TheVariants.{Open}
 use Rattle.sheet.specs.Tables.{line_in}

@@ -10,7 +10,6 @@ import sys
 
 WORDS = {"in_err", "in_ok", "in_default", "overflow_add", "overflow_sub", "overflow_mul", "overflow_cast", "overflow_shl", "overflow_step", "invariant_of", "type_inv", "from_residual", "slice_bounds", "nonzero_div", "nonzero_rem", "as_mut_slice", "as_slice", "split_at", "split_first", "copy_from_slice", "trailing_zeros", "read_to_end"}
 TOKEN = re.compile(r"[^\s(){}\[\].,;@«»\"`λ:|]+")
-LEMMAS = {"drop-cons"}
 
 
 def source_names():

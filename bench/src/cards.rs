@@ -305,64 +305,47 @@ impl Fields {
         let birth = with_digit(&self.birth);
         let expiry = with_digit(&self.expiry);
         let sex = [self.sex];
-        match kind {
-            1 => {
-                let covered = [&number[..], &self.optional, &birth, &expiry, &self.more].concat();
-                let composite = [digit(&covered)];
-                [
-                    &self.code[..],
-                    &self.issuer,
-                    &number,
-                    &self.optional,
-                    &birth,
-                    &sex,
-                    &expiry,
-                    &self.nationality,
-                    &self.more,
-                    &composite,
-                    &self.name,
-                ]
-                .concat()
-            }
-            2 => {
-                let covered = [&number[..], &birth, &expiry, &self.optional].concat();
-                let composite = [digit(&covered)];
-                [
-                    &self.code[..],
-                    &self.issuer,
-                    &self.name,
-                    &number,
-                    &self.nationality,
-                    &birth,
-                    &sex,
-                    &expiry,
-                    &self.optional,
-                    &composite,
-                ]
-                .concat()
-            }
-            _ => {
-                let mut optional = with_digit(&self.optional);
-                if self.filler_digit && self.optional.iter().all(|&c| c == b'<') {
-                    optional[14] = b'<';
-                }
-                let covered = [&number[..], &birth, &expiry, &optional].concat();
-                let composite = [digit(&covered)];
-                [
-                    &self.code[..],
-                    &self.issuer,
-                    &self.name,
-                    &number,
-                    &self.nationality,
-                    &birth,
-                    &sex,
-                    &expiry,
-                    &optional,
-                    &composite,
-                ]
-                .concat()
+        if kind == 1 {
+            let covered = [&number[..], &self.optional, &birth, &expiry, &self.more].concat();
+            let composite = [digit(&covered)];
+            return [
+                &self.code[..],
+                &self.issuer,
+                &number,
+                &self.optional,
+                &birth,
+                &sex,
+                &expiry,
+                &self.nationality,
+                &self.more,
+                &composite,
+                &self.name,
+            ]
+            .concat();
+        }
+        // TD2 and TD3 differ only in the optional field's digit.
+        let mut optional = self.optional.to_vec();
+        if kind != 2 {
+            optional = with_digit(&self.optional);
+            if self.filler_digit && self.optional.iter().all(|&c| c == b'<') {
+                optional[14] = b'<';
             }
         }
+        let covered = [&number[..], &birth, &expiry, &optional].concat();
+        let composite = [digit(&covered)];
+        [
+            &self.code[..],
+            &self.issuer,
+            &self.name,
+            &number,
+            &self.nationality,
+            &birth,
+            &sex,
+            &expiry,
+            &optional,
+            &composite,
+        ]
+        .concat()
     }
 
     fn random(rng: &mut Rng, kind: u8) -> Fields {

@@ -46,7 +46,7 @@ asks steps {s = s} {t = t} {file = file} {have = have} e h = subst (λ w. steps 
 -- the same with what the read answered
 pub tells : {S : Type 0} (outcomes : S → ℕ → ℕ → ℕ → Result Answer Fault → S → Type 0) {s t : S} {file have wanted : ℕ} {given answer : Result Answer Fault}
     → wanted ≡ min (32767 - have) 255 → outcomes s file have wanted given t → given ≡ answer → outcomes s file have (min (32767 - have) 255) answer t
-tells outcomes {s = s} {t = t} {file = file} {have = have} {given = given} e h d = subst (λ r. outcomes s file have (min (32767 - have) 255) r t) d (subst (λ w. outcomes s file have w given t) e h)
+tells outcomes {s = s} {t = t} {file = file} {have = have} {given = given} e h d = subst (λ r. outcomes s file have (min (32767 - have) 255) r t) d (asks (λ s file have wanted t. outcomes s file have wanted given t) e h)
 
 not_lost : (lost₀ lost : Bool) → (lost₀ ≡ true → lost ≡ true) → lost ≡ false → lost₀ ≡ false
 not_lost true lost h e = sym (h refl) ∙ e

@@ -113,7 +113,7 @@ fn is_filled(field: &[u8]) -> bool
 
 /// Whether the composite, which stands at this index, is right.
 pub(crate) fn is_composite(zone: &[u8], cover: Cover, index: usize) -> bool
-    requires within { (Within (length zone.now) cover.first) × ((Within (length zone.now) cover.second) × (Within (length zone.now) cover.third)) }
+    requires within { Within (length zone.now) cover.first × Within (length zone.now) cover.second × Within (length zone.now) cover.third }
     requires index_in_bounds { index < length zone.now }
     ensures { Decides result (Composite zone.now cover index) }
 {

@@ -1,6 +1,6 @@
 /* The sheet of a passport chip's files, for C.
  *
- * Link target/staticlib/libc_api.a (made by `rt staticlib c_api`) and the kit's librattle_c.a.
+ * Link crates/c_api/out/libc_api.a, which `rt lib` makes in crates/c_api; it stands alone.
  * Every pointer must be valid and not null; an array is a pointer and its number of elements, and may be shared with no
  * other argument. The library keeps no pointer and allocates nothing.
  */

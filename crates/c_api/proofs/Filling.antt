@@ -7,7 +7,7 @@ use Rattle.card.specs.declared.line.Line.{Line}
 use Rattle.card.specs.declared.line.Line.TheVariants.{Open}
 use Rattle.sheet.specs.Sheets.{Written}
 use Rattle.sheet.specs.Tables.{place, line_in}
-use Rattle.sheet.specs.declared.table.Sheet.{Sheet}
+use Rattle.sheet.specs.declared.sheet.Sheet.{Sheet}
 use Rattle.sheet.proofs.Places.{within}
 use Rattle.verdict.specs.Verdicts.{AreFileLines, HoldsVerdict, by_case}
 use Rattle.c_api.specs.Door.{Each, Filled}

@@ -8,6 +8,7 @@ use Rattle.card.specs.declared.line.Line.{Line}
 use Rattle.card.specs.declared.line.Line.TheVariants.{Open, Pass, Fail, NotApplicable, Blocked}
 use Rattle.image.specs.Checks.{ImageOf, BrokenAt}
 use Rattle.sheet.specs.Tables.{place}
+use Rattle.sheet.specs.declared.tally.Tally.{Tally}
 use Rattle.verdict.specs.Verdicts.{CardGives}
 use Rattle.c_api.specs.declared.Counts.{Counts}
 
@@ -43,6 +44,13 @@ pub record Tallied (lines : CardLines) (counts : Counts) : Type 0 where
   pub fail : counts.fail ≡ count failing lines
   pub not_applicable : counts.not_applicable ≡ count unapplied lines
   pub blocked : counts.blocked ≡ count blocked lines
+
+-- the four counts of a tally
+pub record SameCounts (tally : Tally) (counts : Counts) : Type 0 where
+  pub pass : counts.pass ≡ tally.pass
+  pub fail : counts.fail ≡ tally.fail
+  pub not_applicable : counts.not_applicable ≡ tally.not_applicable
+  pub blocked : counts.blocked ≡ tally.blocked
 
 -- checking an image: 0 if it is one, else 8 with the place where it breaks
 abbrev pub Checks : List ℕ → ℕ → ℕ → ℕ → Type 0

@@ -5,15 +5,20 @@ ghost use Rattle.std.specs.Prelude.{◌≡◌, ℕ, ◌<◌, ◌≤◌, length};
 ghost use Rattle.image.specs.Images.{files_in};
 ghost use Rattle.sheet.specs.Tables.{line_in};
 ghost use Rattle.verdict.specs.Verdicts.{HoldsVerdict};
-ghost use Rattle.c_api.specs.Door.{state_of, place_of, Checks, Makes, Each};
+ghost use Rattle.card.specs.Refusals.{valued};
+ghost use Rattle.image.specs.Numbers.{of_image};
+ghost use Rattle.c_api.specs.Door.{state_of, place_of, SameCounts, Checks, Makes, Each};
 
-use card::{EF_SOD, Line, Profile};
+use card::{EF_SOD, Line, Numbered, Profile};
 use image::{Image, ImageRefusal};
-use sheet::Sheet;
+use sheet::{Sheet, Tally};
 use verdict::file_lines;
 
 /// How many lines a sheet has.
 const LINES: usize = 75;
+
+/// The refusal of an array that has no room for the lines.
+const NO_ROOM: u32 = 3;
 
 /// How many lines pass, fail, are not applicable and are blocked.
 #[repr(C)]
@@ -25,6 +30,19 @@ pub struct Counts {
     pub blocked: u32,
 }
 
+impl From<Tally> for Counts {
+    ghost from_gives = { λ tally counts. SameCounts tally counts };
+
+    fn from(tally: Tally) -> Counts {
+        Counts {
+            pass: u32::from(tally.pass),
+            fail: u32::from(tally.fail),
+            not_applicable: u32::from(tally.not_applicable),
+            blocked: u32::from(tally.blocked),
+        }
+    }
+}
+
 /// Checks an image: 0, or 8 with the start of the first field that breaks in `position`.
 #[unsafe(no_mangle)]
 pub extern "C" fn suhluva_check_image(image: &[u8], position: &mut u64) -> u32
@@ -32,10 +50,7 @@ pub extern "C" fn suhluva_check_image(image: &[u8], position: &mut u64) -> u32
 {
     match Image::check(image) {
         Ok(_) => 0,
-        Err(ImageRefusal::Malformed { position: start }) => {
-            *position = start as u64;
-            8
-        }
+        Err(refusal) => report(refusal, position),
     }
 }
 
@@ -53,32 +68,30 @@ pub extern "C" fn suhluva_sheet(
 ) -> u32
     ensures { Makes kind declared image.now (record { states = states.entry.now; places = places.old; counts = counts.old; position = position.old }) (record { states = states.exit.now; places = places.new; counts = counts.new; position = position.new }) result }
 {
-    let Ok(profile) = Profile::new(kind, declared) else {
-        return 1;
+    let profile = match Profile::new(kind, declared) {
+        Ok(profile) => profile,
+        Err(refusal) => return u32::from(refusal.number()),
     };
-    if states.len() < LINES {
-        return 3;
-    }
-    if places.len() < LINES {
-        return 3;
+    if states.len() < LINES || places.len() < LINES {
+        return NO_ROOM;
     }
     let image = match Image::check(image) {
         Ok(image) => image,
-        Err(ImageRefusal::Malformed { position: start }) => {
-            *position = start as u64;
-            return 8;
-        }
+        Err(refusal) => return report(refusal, position),
     };
     let sheet = sheet_of(image, profile);
     write_lines(sheet.lines(), states, places);
-    let tally = sheet.tally();
-    *counts = Counts {
-        pass: u32::from(tally.pass),
-        fail: u32::from(tally.fail),
-        not_applicable: u32::from(tally.not_applicable),
-        blocked: u32::from(tally.blocked),
-    };
+    *counts = sheet.tally().into();
     0
+}
+
+/// The number of an image's refusal, with the start of the field that breaks in `position`.
+fn report(refusal: ImageRefusal, position: &mut u64) -> u32
+    ensures { valued result position.new ≡ of_image refusal }
+{
+    let ImageRefusal::Malformed { position: start } = refusal;
+    *position = start as u64;
+    u32::from(refusal.number())
 }
 
 /// The sheet of an image's files.
@@ -95,6 +108,7 @@ fn sheet_of(image: Image<'_>, profile: Profile) -> Sheet
     sheet
 }
 
+// One loop over two arrays: C hands them over so.
 /// Writes the state and the place of each line.
 fn write_lines(lines: &[Line], states: &mut [u8], places: &mut [u64])
     requires { (length lines.now ≡ 75) × (75 ≤ length states.old) × (75 ≤ length places.old) }
@@ -107,6 +121,7 @@ fn write_lines(lines: &[Line], states: &mut [u8], places: &mut [u64])
     }
 }
 
+// A function and no `From`: neither the line nor the number is a type of this crate.
 /// The number of a line's state.
 fn state_number(line: Line) -> u8
     ensures { result ≡ state_of line }
@@ -114,7 +129,7 @@ fn state_number(line: Line) -> u8
     match line {
         Line::Open => 0,
         Line::Pass => 1,
-        Line::Fail { place: _ } => 2,
+        Line::Fail { .. } => 2,
         Line::NotApplicable => 3,
         Line::Blocked => 4,
     }

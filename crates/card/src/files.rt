@@ -22,8 +22,5 @@ pub const TEMPLATE_TAGS: [u8; 18] = [
 pub fn template_tag(file: u8) -> Option<u8>
     ensures { MatchOption result (17 < file) (λ tag. (file ≤ 17) × (tag ≡ template_tag_of file)) }
 {
-    if file > EF_SOD {
-        return None;
-    }
-    Some(TEMPLATE_TAGS[file as usize])
+    TEMPLATE_TAGS.get(usize::from(file)).copied()
 }

@@ -9,6 +9,6 @@ pub mod profile;
 pub mod refusal;
 
 pub use files::{EF_COM, EF_SOD, LONGEST, TEMPLATE_TAGS, template_tag};
-pub use line::Line;
-pub use profile::Profile;
-pub use refusal::ProfileRefusal;
+pub use line::{Failure, Line};
+pub use profile::{Kind, Profile};
+pub use refusal::{Numbered, ProfileRefusal};

@@ -1,5 +1,15 @@
 //! A line of the sheet: what it says of its case.
+ghost use Rattle.std.specs.Prelude.{◌≡◌};
+ghost use Rattle.card.specs.Lines.{line_of};
+ghost use Rattle.card.specs.declared.line.Line.TheVariants.{Fail};
+
 use std::fmt;
+
+/// Where a case fails: an offset in the file.
+#[derive(Clone, Copy, Debug, PartialEq, Eq)]
+pub struct Failure {
+    pub place: usize,
+}
 
 /// What a line says of its case.
 #[derive(Clone, Copy, Debug, PartialEq, Eq)]
@@ -14,6 +24,29 @@ pub enum Line {
     NotApplicable,
     /// An earlier case of the file failed.
     Blocked,
+}
+
+impl Line {
+    /// The line of a case that is judged: it passes where the case holds, and fails at this place where not.
+    pub fn judged(holds: bool, place: usize) -> Line
+        ensures { result ≡ line_of holds place }
+    {
+        if holds {
+            Line::Pass
+        } else {
+            Line::Fail { place }
+        }
+    }
+}
+
+impl From<Failure> for Line {
+    ghost from_gives = { λ failure line. line ≡ Fail failure.place };
+
+    fn from(failure: Failure) -> Line {
+        Line::Fail {
+            place: failure.place,
+        }
+    }
 }
 
 impl fmt::Display for Line {

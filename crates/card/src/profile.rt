@@ -2,7 +2,7 @@
 //! Its two parts are plain numbers: the kind of zone, and a set of data groups.
 ghost use Rattle.std.specs.Prelude.{◌≡◌, ℕ, ◌<◌, MatchResult};
 ghost use Rattle.card.specs.Sets.{has};
-ghost use Rattle.card.specs.Profiles.{Lawful, required};
+ghost use Rattle.card.specs.Profiles.{Lawful, kind_of, required};
 ghost use Rattle.card.specs.Refusals.{Unless, no_other};
 ghost use Rattle.card.specs.Numbers.{of_profile};
 
@@ -12,8 +12,19 @@ use crate::refusal::ProfileRefusal;
 /// The highest kind of zone, TD3; the lowest is 1, TD1.
 const LAST_KIND: u8 = 3;
 
+/// A kind of machine readable zone.
+#[derive(Clone, Copy, Debug, PartialEq, Eq)]
+pub enum Kind {
+    /// Three lines of 30 characters.
+    Td1,
+    /// Two lines of 36 characters.
+    Td2,
+    /// Two lines of 44 characters.
+    Td3,
+}
+
 /// A kind of machine readable zone, 1 to 3 for TD1 to TD3, and the data groups that the card is declared to have.
-#[derive(Clone, Copy, Debug)]
+#[derive(Clone, Copy, Debug, PartialEq, Eq)]
 pub struct Profile {
     kind: u8,
     declared: u16,
@@ -37,6 +48,17 @@ impl Profile {
         ensures { result ≡ self.kind }
     {
         self.kind
+    }
+
+    /// The kind of zone by its name.
+    pub fn zone_kind(self) -> Kind
+        ensures { result ≡ kind_of self.kind }
+    {
+        match self.kind {
+            1 => Kind::Td1,
+            2 => Kind::Td2,
+            _ => Kind::Td3,
+        }
     }
 
     /// The declared set: bit 0 is DG1, bit 15 is DG16.

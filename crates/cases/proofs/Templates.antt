@@ -1,6 +1,8 @@
 -- Case 2: the template's tag, its length and its end.
-use Rattle.std.proofs.Common.{◌≡◌, ℕ, ◌+◌, ◌<◌, min, List, [], ◌∷◌, ◌++◌, length, get_or, drop, Some, None, Option, sym, refl, ap, ◌∙◌, subst, inl, append-nil, arith, length-append, drop-drop, lt-ltb}
+use Rattle.std.proofs.Common.{◌≡◌, ℕ, ◌+◌, ◌<◌, min, List, [], ◌∷◌, ◌++◌, length, true, false, eqb, take, drop, Some, None, Option, sym, refl, ap, ◌∙◌, subst, inl, append-nil, arith, length-append, drop-drop, lt-ltb, take-append-drop}
+use lib.Pointwise.{pointwise}
 use lib.Seq.{drop-append_seam}
+use Rattle.std.specs.Cmp.Lexicographic.{same_text, other_text}
 use Rattle.object.specs.Objects.{Begins, ShortTag, tag_bytes, length_bytes, header_size}
 use Rattle.object.specs.Reading.{length_of}
 use Rattle.object.proofs.Laws.{len_law}
@@ -35,15 +37,13 @@ off_one {t = t} s (other_end n r l e d) w =
 pub fails : {t : ℕ} {xs : List ℕ} {q : ℕ} → ShortTag t → Off t xs q → (One t xs → ⊥) × Off t xs q
 fails s o = (off_one s o, o)
 
-pub off_empty : (t : ℕ) (xs : List ℕ) → length xs ≡ 0 → Off t xs 0
-off_empty t xs e = other_tag (λ ys f. omega (arith, ap length f))
+-- the tag stands at the start, or it does not
+pub off_tag : (t : ℕ) (xs : List ℕ) → pointwise eqb (take 1 xs) (t ∷ []) ≡ false → Off t xs 0
+off_tag t xs n = other_tag (λ rest f. other_text (take 1 xs) (t ∷ []) (sym n) (ap (take 1) f))
 
-pub off_tag : (t : ℕ) (xs : List ℕ) → (get_or xs 0 0 ≡ t → ⊥) → Off t xs 0
-off_tag t xs n = other_tag (λ ys f. n (ap (λ z. get_or z 0 0) f))
-
-pub first_is : (t : ℕ) (xs rest : List ℕ) → 0 < length xs → get_or xs 0 0 ≡ t → rest ≡ drop 1 xs → xs ≡ t ∷ rest
-first_is t [] rest l e d = let z : ⊥ = omega arith in absurd z
-first_is t (x ∷ xs) rest l e d = ap (λ z. z ∷ xs) e ∙ ap (λ z. t ∷ z) (sym d)
+pub first_is : (t : ℕ) (xs rest : List ℕ) → pointwise eqb (take 1 xs) (t ∷ []) ≡ true → rest ≡ drop 1 xs → xs ≡ t ∷ rest
+first_is t xs rest e d =
+    sym (take-append-drop 1 xs) ∙ ap (λ z. z ++ drop 1 xs) (same_text (take 1 xs) (t ∷ []) (sym e)) ∙ ap (λ z. t ∷ z) (sym d)
 
 pub off_length : (t : ℕ) (xs rest : List ℕ) → xs ≡ t ∷ rest → None ≡ length_of rest → Off t xs 1
 off_length t xs rest e n = no_length rest e (λ k r l f. let g = len_law k l r in let h = ap length_of f in let z : ◌≡◌ {A = ℕ} 0 1 = cc in omega arith)

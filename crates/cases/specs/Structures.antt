@@ -1,11 +1,12 @@
 -- Cases 1 to 3 of a file, and how they block its later cases.
-use Rattle.std.specs.Prelude.{◌≡◌, ℕ, ◌≤◌, Bool, true, false, List, [], length, drop, Some, None, Option}
+use Rattle.std.specs.Prelude.{◌≡◌, ℕ, Bool, true, false, List, [], Some, None, Option}
 use Rattle.card.specs.Lines.{Gates}
 use Rattle.card.specs.declared.line.Line.TheVariants.{Pass, Fail, NotApplicable, Blocked}
 use Rattle.object.specs.Objects.{Begins, header_size}
 use Rattle.object.specs.Trees.{Tiled, First}
+use Rattle.object.specs.Readers.{rest_of}
+use Rattle.object.specs.declared.reader.Reader.{Reader}
 use Rattle.cases.specs.Templates.{One, Off}
-use Rattle.cases.specs.declared.structure.Opened.{Opened}
 use Rattle.cases.specs.declared.structure.Structure.{Structure}
 
 -- Cases 2 and 3 of a file that is required and there. Where both pass, the later cases are as `later` says of the
@@ -27,18 +28,26 @@ Structured tag (Some bytes) false lines later blocked = (lines.present ≡ Fail 
 abbrev pub Stopped : ℕ → Option (List ℕ) → Bool → Structure → Type 0
 Stopped tag file required lines = Structured tag file required lines (λ _ _. ⊥) (Unit {0})
 
--- the value of an opened file's template
-abbrev pub value_of : Opened → List ℕ
-value_of opened = drop opened.start opened.bytes.now
+-- a required file that is there has these bytes
+abbrev pub Expected : Option (List ℕ) → Bool → List ℕ → Type 0
+Expected None required bytes = ⊥
+Expected (Some is) true bytes = bytes ≡ is
+Expected (Some is) false bytes = ⊥
 
--- all three pass, and the value of the template starts where this says
-pub record OpensFile (tag : ℕ) (bytes : List ℕ) (opened : Opened) : Type 0 where
-  pub begins : Begins bytes tag (value_of opened) []
-  pub at : opened.start ≡ header_size tag (value_of opened)
-  pub within : opened.start ≤ length opened.bytes.now
-  pub tiled : Tiled 15 (value_of opened)
+-- there is no file to look into, or none that should be there: case 1, and what it leaves of cases 2 and 3
+abbrev pub Unopened : Option (List ℕ) → Bool → Structure → Type 0
+Unopened None true lines = (lines.present ≡ Fail 0) × (lines.template ≡ Blocked) × (lines.tiling ≡ Blocked)
+Unopened None false lines = (lines.present ≡ Pass) × (lines.template ≡ NotApplicable) × (lines.tiling ≡ NotApplicable)
+Unopened (Some bytes) true lines = ⊥
+Unopened (Some bytes) false lines = (lines.present ≡ Fail 0) × (lines.template ≡ Blocked) × (lines.tiling ≡ Blocked)
 
-abbrev pub Sound : ℕ → Option (List ℕ) → Bool → Opened → Type 0
-Sound tag None required opened = ⊥
-Sound tag (Some bytes) true opened = OpensFile tag bytes opened
-Sound tag (Some bytes) false opened = ⊥
+-- all three pass, and the reader has the value of the template before it
+pub record OpensFile (tag : ℕ) (bytes : List ℕ) (reader : Reader) : Type 0 where
+  pub begins : Begins bytes tag (rest_of reader) []
+  pub at : reader.position ≡ header_size tag (rest_of reader)
+  pub tiled : Tiled 15 (rest_of reader)
+
+abbrev pub Sound : ℕ → Option (List ℕ) → Bool → Reader → Type 0
+Sound tag None required reader = ⊥
+Sound tag (Some bytes) true reader = OpensFile tag bytes reader
+Sound tag (Some bytes) false reader = ⊥

@@ -4,7 +4,7 @@ ghost use Rattle.std.specs.Option.{option_map};
 ghost use Rattle.card.specs.Profiles.{required};
 ghost use Rattle.cases.specs.Groups.{AreStructureLines, StructuredFree};
 
-use crate::structure::{SOUND, Structure, open_file};
+use crate::structure::{Structure, find_file, open_file};
 use crate::template::open_template;
 use card::{EF_SOD, Line, Profile, TEMPLATE_TAGS};
 
@@ -22,7 +22,7 @@ pub fn judge_structure(file: u8, content: Option<&[u8]>, profile: Profile) -> Op
         return Some(judge_free(content, profile));
     }
     match open_file(file, content, profile) {
-        Ok(_) => Some(SOUND),
+        Ok(_) => Some(Structure::SOUND),
         Err(lines) => Some(lines),
     }
 }
@@ -31,39 +31,18 @@ pub fn judge_structure(file: u8, content: Option<&[u8]>, profile: Profile) -> Op
 fn judge_free(content: Option<&[u8]>, profile: Profile) -> Structure
     ensures { StructuredFree (required profile.declared 13) (option_map (λ x. x.now) content.entry) result }
 {
-    let tiling = Line::NotApplicable;
-    let required = profile.required(DG13);
-    let Some(bytes) = content else {
-        if required {
-            return Structure {
-                present: Line::Fail { place: 0 },
-                template: Line::Blocked,
-                tiling,
-            };
-        }
-        return Structure {
-            present: Line::Pass,
-            template: Line::NotApplicable,
-            tiling,
-        };
+    let lines = match find_file(content, profile.required(DG13)) {
+        Ok(bytes) => Structure {
+            template: match open_template(bytes, TEMPLATE_TAGS[usize::from(DG13)]) {
+                Ok(_) => Line::Pass,
+                Err(failure) => failure.into(),
+            },
+            ..Structure::SOUND
+        },
+        Err(lines) => lines,
     };
-    if !required {
-        return Structure {
-            present: Line::Fail { place: 0 },
-            template: Line::Blocked,
-            tiling,
-        };
-    }
-    match open_template(bytes, TEMPLATE_TAGS[DG13 as usize]) {
-        Ok(_) => Structure {
-            present: Line::Pass,
-            template: Line::Pass,
-            tiling,
-        },
-        Err(place) => Structure {
-            present: Line::Pass,
-            template: Line::Fail { place },
-            tiling,
-        },
+    Structure {
+        tiling: Line::NotApplicable,
+        ..lines
     }
 }

@@ -3,6 +3,7 @@
 
 pub mod common_file;
 pub mod face_file;
+pub mod file;
 pub mod group;
 pub mod rows;
 pub mod security;
@@ -10,10 +11,11 @@ pub mod structure;
 pub mod template;
 pub mod zone_file;
 
-pub use common_file::{CommonFileLines, judge_common};
-pub use face_file::{FaceFileLines, judge_faces};
+pub use common_file::judge_common;
+pub use face_file::judge_faces;
+pub use file::FileLines;
 pub use group::judge_structure;
 pub use rows::worked_rows;
-pub use security::{SecurityLines, judge_security};
+pub use security::judge_security;
 pub use structure::Structure;
-pub use zone_file::{ZoneFileLines, judge_zone};
+pub use zone_file::judge_zone;

@@ -1,28 +1,30 @@
 //! Case 2: a file is its template and nothing more.
-ghost use Rattle.std.specs.Result.{MatchResult};
+ghost use Rattle.std.specs.Prelude.{◌≡◌, MatchResult};
 ghost use Rattle.object.specs.Objects.{ShortTag};
 ghost use Rattle.cases.specs.Templates.{One, Off, Opens};
 
-use object::read_length;
+use card::Failure;
+use object::{Reader, read_length};
 
-/// Where the value of the file's template starts, or the place at which case 2 fails.
-pub(crate) fn open_template(bytes: &[u8], tag: u8) -> Result<usize, usize>
+/// A reader at the value of the file's template, or the place at which case 2 fails.
+pub(crate) fn open_template(bytes: &[u8], tag: u8) -> Result<Reader<'_>, Failure>
     requires { ShortTag tag }
-    ensures { MatchResult result (λ start. Opens tag bytes.now start) (λ place. (One tag bytes.now → ⊥) × Off tag bytes.now place) }
+    ensures { MatchResult result (λ reader. (reader.bytes.now ≡ bytes.now) × Opens tag bytes.now reader.position) (λ failure. (One tag bytes.now → ⊥) × Off tag bytes.now failure.place) }
 {
-    if bytes.len() == 0 {
-        return Err(0);
-    }
-    if bytes[0] != tag {
-        return Err(0);
-    }
-    let (_, rest) = bytes.split_at(1);
+    let Some(rest) = bytes.strip_prefix(&[tag]) else {
+        return Err(Failure { place: 0 });
+    };
     let Some((length, size)) = read_length(rest) else {
-        return Err(1);
+        return Err(Failure { place: 1 });
     };
     let end = 1 + size + length;
     if end != bytes.len() {
-        return Err(end.min(bytes.len()));
+        return Err(Failure {
+            place: end.min(bytes.len()),
+        });
     }
-    Ok(1 + size)
+    Ok(Reader {
+        bytes,
+        position: 1 + size,
+    })
 }

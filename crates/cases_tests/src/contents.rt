@@ -9,13 +9,13 @@ fn tag_lines(first: u8, second: u8) -> Result<(Line, Line), Fail> {
     let mut bytes = *b"\x60\x14\x5f\x01\x040107\x5f\x36\x06040000\x5c\x02\x61\x75";
     bytes[20] = first;
     bytes[21] = second;
-    let lines = judge_common(Some(&bytes), Profile::new(3, 0x0003)?).common;
+    let lines = judge_common(Some(&bytes), Profile::new(3, 0x0003)?).own;
     Ok((lines.tags, lines.declared))
 }
 
 /// The lines of cases 21 to 23 of DG2.
 fn face_lines(bytes: &[u8]) -> Result<FaceLines, Fail> {
-    Ok(judge_faces(Some(bytes), Profile::new(3, 0x0003)?).faces)
+    Ok(judge_faces(Some(bytes), Profile::new(3, 0x0003)?).own)
 }
 
 #[test]

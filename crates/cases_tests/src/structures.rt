@@ -88,21 +88,21 @@ fn presence(rt: HostRuntime) -> Result<(), Fail> {
 #[test]
 fn security_objects(rt: HostRuntime) -> Result<(), Fail> {
     assert_eq!(rt;
-        judge_security(Some(&[0x77, 0x02, 0x30, 0x00]), profile()?).single,
+        judge_security(Some(&[0x77, 0x02, 0x30, 0x00]), profile()?).own,
         Line::Pass
     );
     assert_eq!(rt;
-        judge_security(Some(&[0x77, 0x00]), profile()?).single,
+        judge_security(Some(&[0x77, 0x00]), profile()?).own,
         Line::Fail { place: 2 }
     );
     assert_eq!(rt;
-        judge_security(Some(&[0x77, 0x04, 0x30, 0x00, 0x30, 0x00]), profile()?).single,
+        judge_security(Some(&[0x77, 0x04, 0x30, 0x00, 0x30, 0x00]), profile()?).own,
         Line::Fail { place: 2 }
     );
     assert_eq!(rt;
-        judge_security(Some(&[0x77, 0x02, 0x30, 0x01]), profile()?).single,
+        judge_security(Some(&[0x77, 0x02, 0x30, 0x01]), profile()?).own,
         Line::Blocked
     );
-    assert_eq!(rt; judge_security(None, profile()?).single, Line::Blocked);
+    assert_eq!(rt; judge_security(None, profile()?).own, Line::Blocked);
     Ok(())
 }

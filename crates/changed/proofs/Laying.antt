@@ -1,10 +1,10 @@
 -- Changes laid on a part of a file: the same as that part of the file with the changes laid on.
-use Rattle.std.proofs.Common.{◌≡◌, ℕ, zero, suc, ◌+◌, ◌-◌, ◌<◌, ◌≤◌, Bool, true, false, cond, eqb, leb, List, [], ◌∷◌, ◌++◌, length, take, drop, set, Some, None, Option, sym, refl, ap, ◌∙◌, subst, arith, length-drop, length-set, length-take, drop-set-lt, rules, leb-true}
+use Rattle.std.proofs.Common.{◌≡◌, ℕ, zero, suc, ◌+◌, ◌-◌, ◌<◌, ◌≤◌, Bool, true, false, cond, eqb, leb, List, [], ◌∷◌, ◌++◌, length, take, drop, set, Some, None, Option, sym, refl, ap, ◌∙◌, subst, arith, length-drop, length-take, drop-set-lt, rules, leb-true}
 use lib.Seq.{drop-set-add}
 use Rattle.std.proofs.lemmas.List.{take_at, drop_at}
 use Rattle.std.specs.Option.{option_map}
 use Rattle.source.specs.Reads.{Brings}
-use Rattle.changed.specs.Changes.{removed, with_setting, with_settings}
+use Rattle.changed.specs.Changes.{removed, with_setting, with_settings, all_length}
 use Rattle.changed.specs.declared.change.Change.{Change}
 use Rattle.changed.specs.declared.change.Change.TheVariants.{Remove, Set}
 
@@ -22,7 +22,7 @@ whole_set true bs place byte =
     let z : place - 0 ≡ place = omega arith in
     ap (λ b. cond b (set bs (place - 0) byte) bs) t ∙ ap (λ p. set bs p byte) z
 
-pub setting_whole : (other place byte file : ℕ) (bs : List ℕ) → with_setting (Set other place byte) file 0 bs ≡ cond (eqb other file) (set bs place byte) bs
+setting_whole : (other place byte file : ℕ) (bs : List ℕ) → with_setting (Set other place byte) file 0 bs ≡ cond (eqb other file) (set bs place byte) bs
 setting_whole other place byte file bs = whole_set (eqb other file) bs place byte
 
 -- a setting of the file, in a part of it
@@ -45,39 +45,25 @@ one_in_part : (c : Change) (file from n : ℕ) (bs : List ℕ) → with_setting 
 one_in_part (Remove gone) file from n bs = refl
 one_in_part (Set other place byte) file from n bs = setting_in_part (eqb other file) from n bs place byte ∙ ap (λ z. take n (drop from z)) (sym (setting_whole other place byte file bs))
 
-pub all_in_part : (cs : List Change) (file from n : ℕ) (bs : List ℕ) → with_settings cs file from (take n (drop from bs)) ≡ take n (drop from (with_settings cs file 0 bs))
+all_in_part : (cs : List Change) (file from n : ℕ) (bs : List ℕ) → with_settings cs file from (take n (drop from bs)) ≡ take n (drop from (with_settings cs file 0 bs))
 all_in_part [] file from n bs = refl
 all_in_part (c ∷ cs) file from n bs = ap (with_settings cs file from) (one_in_part c file from n bs) ∙ all_in_part cs file from n (with_setting c file 0 bs)
 
--- changes keep a file's length
-setting_length : (b d : Bool) (bs : List ℕ) (at byte : ℕ) → length (cond b (cond d (set bs at byte) bs) bs) ≡ length bs
-setting_length true true bs at byte = length-set bs at byte
-setting_length true false bs at byte = refl
-setting_length false d bs at byte = refl
-
-one_length : (c : Change) (file from : ℕ) (bs : List ℕ) → length (with_setting c file from bs) ≡ length bs
-one_length (Remove gone) file from bs = refl
-one_length (Set other place byte) file from bs = setting_length (eqb other file) (leb from place) bs (place - from) byte
-
-pub all_length : (cs : List Change) (file from : ℕ) (bs : List ℕ) → length (with_settings cs file from bs) ≡ length bs
-all_length [] file from bs = refl
-all_length (c ∷ cs) file from bs = all_length cs file from (with_setting c file from bs) ∙ one_length c file from bs
-
 -- what the source below brought, with the changes laid on, is what the changed file brings
-laid_bytes : (cs : List Change) (file place n : ℕ) (bs before mid part after : List ℕ) → n ≤ length bs - place → mid ≡ take n (drop place bs) ++ drop n before
-    → part ≡ take n mid → after ≡ with_settings cs file place part ++ drop n mid → after ≡ take n (drop place (with_settings cs file 0 bs)) ++ drop n before
-laid_bytes cs file place n bs before mid part after within m p a =
+laid_bytes : (cs : List Change) (file place n : ℕ) (bs before mid after : List ℕ) → n ≤ length bs - place → mid ≡ take n (drop place bs) ++ drop n before
+    → after ≡ with_settings cs file place (take n mid) ++ drop n mid → after ≡ take n (drop place (with_settings cs file 0 bs)) ++ drop n before
+laid_bytes cs file place n bs before mid after within m a =
     let l : length (take n (drop place bs)) ≡ n = simp (length-take, length-drop) (omega arith) in
-    let front : part ≡ take n (drop place bs) = p ∙ ap (take n) m ∙ take_at (take n (drop place bs)) (drop n before) n l in
+    let front : take n mid ≡ take n (drop place bs) = ap (take n) m ∙ take_at (take n (drop place bs)) (drop n before) n l in
     let back : drop n mid ≡ drop n before = ap (drop n) m ∙ drop_at (take n (drop place bs)) (drop n before) n l in
     a ∙ ap (λ z. with_settings cs file place z ++ drop n mid) front ∙ ap (λ z. z ++ drop n mid) (all_in_part cs file place n bs) ∙ ap (λ z. take n (drop place (with_settings cs file 0 bs)) ++ z) back
 
-pub laid_brings : (cs : List Change) (f : Option (List ℕ)) (file place wanted n : ℕ) (before mid part after : List ℕ) → removed cs file ≡ false → Brings f place wanted n before mid
-    → part ≡ take n mid → after ≡ with_settings cs file place part ++ drop n mid → Brings (cond (removed cs file) None (option_map (with_settings cs file 0) f)) place wanted n before after
-laid_brings cs None file place wanted n before mid part after stays b p a = absurd b
-laid_brings cs (Some bs) file place wanted n before mid part after stays b p a =
+pub laid_brings : (cs : List Change) (f : Option (List ℕ)) (file place wanted n : ℕ) (before mid after : List ℕ) → removed cs file ≡ false → Brings f place wanted n before mid
+    → after ≡ with_settings cs file place (take n mid) ++ drop n mid → Brings (cond (removed cs file) None (option_map (with_settings cs file 0) f)) place wanted n before after
+laid_brings cs None file place wanted n before mid after stays b a = absurd b
+laid_brings cs (Some bs) file place wanted n before mid after stays b a =
     let l = all_length cs file 0 bs in
     let w = b.0.within in
     let some : place < length bs → 0 < n = b.0.some in
     subst (λ d. Brings (cond d None (Some (with_settings cs file 0 bs))) place wanted n before after) (sym stays)
-    (record { most = b.0.most; within = omega arith; some = λ h. some (omega arith) }, laid_bytes cs file place n bs before mid part after w b.1 p a)
+    (record { most = b.0.most; within = omega arith; some = λ h. some (omega arith) }, laid_bytes cs file place n bs before mid after w b.1 a)

@@ -2,14 +2,30 @@
 ghost use Rattle.std.specs.Prelude.{◌≡◌};
 ghost use Rattle.changed.specs.Changes.{removes, with_setting};
 ghost use Rattle.changed.specs.Numbers.{of_change};
+ghost use Rattle.changed.specs.declared.change.Change.TheVariants.{Remove};
+ghost use Rattle.changed.specs.declared.change.ChangeRefusal.TheVariants.{Full};
+
+use arrayvec::CapacityError;
+use card::Numbered;
+use std::error::Error;
+use std::fmt;
 
 /// A change of a card's files.
-#[derive(Clone, Copy, Debug)]
+#[derive(Clone, Copy, Debug, PartialEq, Eq)]
 pub enum Change {
     /// The file is removed for good.
     Remove { file: u8 },
     /// The byte at a place of the file is set.
     Set { file: u8, place: u16, byte: u8 },
+}
+
+/// What stands in the unused places of a source's changes, where nothing reads it.
+impl Default for Change {
+    ghost is_default = { λ unused. unused ≡ Remove 0 };
+
+    fn default() -> Change {
+        Change::Remove { file: 0 }
+    }
 }
 
 impl Change {
@@ -19,11 +35,7 @@ impl Change {
     {
         match self {
             Change::Remove { file: gone } => gone == file,
-            Change::Set {
-                file: _,
-                place: _,
-                byte: _,
-            } => false,
+            Change::Set { .. } => false,
         }
     }
 
@@ -40,7 +52,8 @@ impl Change {
             return;
         };
         if set == file && place >= from {
-            let index = (place - from) as usize;
+            // By its index: what is written through `get_mut` of a slice is known no more afterwards.
+            let index = usize::from(place - from);
             if index < part.len() {
                 part[index] = byte;
             }
@@ -49,7 +62,7 @@ impl Change {
 }
 
 /// Why a change is refused.
-#[derive(Clone, Copy, Debug)]
+#[derive(Clone, Copy, Debug, PartialEq, Eq)]
 pub enum ChangeRefusal {
     /// A card has no file of this number.
     NoFile,
@@ -59,15 +72,30 @@ pub enum ChangeRefusal {
     Full,
 }
 
-impl ChangeRefusal {
-    /// The refusal's number.
-    pub fn number(self) -> u8
-        ensures { result ≡ (of_change self).number }
-    {
+impl Numbered for ChangeRefusal {
+    ghost refusal = { of_change };
+
+    fn number(self) -> u8 {
         match self {
             ChangeRefusal::NoFile => 2,
             ChangeRefusal::NoPlace => 10,
             ChangeRefusal::Full => 9,
         }
+    }
+}
+
+impl fmt::Display for ChangeRefusal {
+    fn fmt<W: fmt::Write>(&self, f: &mut fmt::Formatter<W>) -> fmt::Result {
+        write!(f, "refusal {}", self.number())
+    }
+}
+
+impl Error for ChangeRefusal {}
+
+impl From<CapacityError<Change>> for ChangeRefusal {
+    ghost from_gives = { λ _ refusal. refusal ≡ Full };
+
+    fn from(_: CapacityError<Change>) -> Self {
+        Self::Full
     }
 }

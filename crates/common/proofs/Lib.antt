@@ -1,3 +1,3 @@
 pub mod Sets
 pub mod Members
-pub mod Holding
+mod Holding

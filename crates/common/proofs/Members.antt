@@ -1,13 +1,16 @@
 -- The list of tags, read byte by byte into a set.
-use Rattle.std.proofs.Common.{◌≡◌, ℕ, zero, suc, ◌+◌, ◌<◌, Bool, true, not, ◌&&◌, eqb, List, length, get_or, sym, refl, ap, ◌∙◌, subst, inr, ⊎_elim, arith, below_more}
+use Rattle.std.proofs.Common.{◌≡◌, ℕ, zero, suc, ◌+◌, ◌<◌, Bool, true, not, ◌&&◌, eqb, List, length, get_or, take, drop, ◌≢◌, Some, None, Option, MatchOption, eq-eqb, ne_eqb, sym, refl, ap, ◌∙◌, subst, inr, ⊎_elim, arith, below_more}
 use lib.Bits.{bit_and, bit_or}
-use Rattle.std.specs.List.{prefix_len}
-use Rattle.std.proofs.lemmas.Bool.{cases_lt}
+use Rattle.std.specs.List.{prefix_len, AllWithin, HoldsAt}
+use Rattle.std.proofs.lemmas.List.{get_or-take}
+use Rattle.std.proofs.lemmas.Grind.{get_or_after_one}
+use Rattle.std.proofs.lemmas.Bool.{cases_lt, cases_eq}
 use Rattle.std.proofs.lemmas.Bool.Decides.{Decides-below_and, Decides-eqb}
 use Rattle.card.specs.Cards.{template_tags}
 use Rattle.card.specs.Sets.{has}
-use Rattle.common.specs.Tags.{group_tag, Breaks, Sound, SetOf, FirstBreak, Names}
-use Rattle.common.proofs.Sets.{only, empty, absent, present, stays, added, either, same_members}
+use Rattle.card.specs.Lines.{line_of, Says}
+use Rattle.common.specs.Tags.{group_tag, GroupTag, Breaks, Sound, SetOf, FirstBreak, Names}
+use Rattle.common.proofs.Sets.{only, absent, present, stays, added, either, same_members}
 
 -- no two data groups have one tag: the table read backward
 back : ℕ → ℕ
@@ -24,9 +27,17 @@ back_tag = (Decides-below_and (λ f. eqb (back (group_tag f)) (f + 1)) (λ f. ba
 pub tag_apart : (f g : ℕ) → f < 16 → g < 16 → group_tag f ≡ group_tag g → f ≡ g
 tag_apart f g p q e = omega (arith, back_tag f p, back_tag g q, ap back e)
 
--- before the first byte nothing is broken, and the set is empty
-pub none_read : (tags : List ℕ) → Names tags 0 0
-none_read tags = (λ i l b. omega arith, λ f l. (λ w. absurd (omega (arith, w.1)), λ h. absurd (empty f h)))
+-- the data groups' tags are those in the table behind the first
+abbrev pub groups : List ℕ
+groups = take 16 (drop 1 template_tags)
+
+tag_at : (tags : List ℕ) (n i : ℕ) → i < n → get_or (take n (drop 1 tags)) i 0 ≡ get_or tags (i + 1) 0
+tag_at tags n i l = grind (arith, get_or-take, get_or_after_one)
+
+pub group_at : (tag : ℕ) (r : Option ℕ) → MatchOption r (AllWithin (λ t. t ≢ tag) groups 0 16) (λ i. (i < 16) × HoldsAt (λ t. t ≡ tag) groups i × AllWithin (λ t. t ≢ tag) groups 0 i)
+    → MatchOption r (GroupTag tag → ⊥) (λ group. (group < 16) × (group_tag group ≡ tag))
+group_at tag None h = λ w. h w.0 0 (omega arith) w.1 (tag_at template_tags 16 w.0 w.1 ∙ w.2)
+group_at tag (Some i) h = (h.0, sym (tag_at template_tags 16 i h.0) ∙ h.1 0)
 
 -- one byte more, which is the tag of a data group
 module _ (tags : List ℕ) (i set group : ℕ) (low : group < 16) (here : group_tag group ≡ get_or tags i 0) (known : Names tags i set) where
@@ -61,3 +72,11 @@ module _ (tags : List ℕ) (i set group : ℕ) (low : group < 16) (here : group_
 -- a list names one set
 pub one_set : (tags : List ℕ) (n d e : ℕ) → d < 65536 → e < 65536 → SetOf tags n d → SetOf tags n e → d ≡ e
 one_set tags n d e a b s t = same_members d e a b (λ f l. (λ h. (t f l).0 ((s f l).1 h), λ h. (s f l).0 ((t f l).1 h)))
+
+-- the line of case 8, where a list names a set
+pub tag_lines_when : (tags : List ℕ) (set declared place : ℕ) → Names tags (length tags) set → set < 65536 → declared < 65536
+    → Sound tags (length tags) × Says (line_of (eqb set declared) place) (SetOf tags (length tags) declared) (λ at. at ≡ place)
+tag_lines_when tags set declared place n l m = ⊎_elim
+    (λ e. rw (eq-eqb set declared e) (n.0, subst (SetOf tags (length tags)) e n.1))
+    (λ d. rw (ne_eqb set declared d) (n.0, (λ s. d (one_set tags (length tags) set declared l m n.1 s), refl)))
+    (cases_eq set declared)

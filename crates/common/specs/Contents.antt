@@ -24,12 +24,12 @@ place_of_unicode place h = place_of_version place h + length h.version + header_
 abbrev pub place_of_tags : ℕ → {template : List ℕ} → Holds template → ℕ
 place_of_tags place h = place_of_unicode place h + length h.unicode + header_size 0x5C h.tags
 
--- what was read is what the template holds, each value with its place
+-- what was read is what the template holds, each value at its place
 pub record Contains (place : ℕ) (template : List ℕ) (contents : Contents) : Type 0 where
   pub holds : Holds template
-  pub version : contents.version.now ≡ holds.version
-  pub unicode : contents.unicode.now ≡ holds.unicode
-  pub tags : contents.tags.now ≡ holds.tags
-  pub version_at : contents.version_place ≡ place_of_version place holds
-  pub unicode_at : contents.unicode_place ≡ place_of_unicode place holds
-  pub tags_at : contents.tags_place ≡ place_of_tags place holds
+  pub version : contents.version.bytes.now ≡ holds.version
+  pub unicode : contents.unicode.bytes.now ≡ holds.unicode
+  pub tags : contents.tags.bytes.now ≡ holds.tags
+  pub version_at : contents.version.place ≡ place_of_version place holds
+  pub unicode_at : contents.unicode.place ≡ place_of_unicode place holds
+  pub tags_at : contents.tags.place ≡ place_of_tags place holds

@@ -1,10 +1,9 @@
 //! The lines of cases 4 to 8.
-ghost use Rattle.std.specs.Prelude.{◌≡◌};
-ghost use Rattle.card.specs.Lines.{Says};
+ghost use Rattle.std.specs.Prelude.{◌≡◌, [], ◌∷◌};
 ghost use Rattle.object.specs.Readers.{rest_of};
-ghost use Rattle.common.specs.Lines.{AreCommonLines, version_text, unicode_text};
+ghost use Rattle.common.specs.Lines.{AreCommonLines};
 
-use crate::contents::read_contents;
+use crate::contents::{Contents, read_contents};
 use crate::tags::{TagLines, tag_lines};
 use card::Line;
 use object::Reader;
@@ -19,50 +18,56 @@ pub struct CommonLines {
     pub declared: Line,
 }
 
+impl CommonLines {
+    /// The lines where an earlier case failed.
+    pub const BLOCKED: CommonLines = CommonLines {
+        contents: Line::Blocked,
+        version: Line::Blocked,
+        unicode: Line::Blocked,
+        tags: Line::Blocked,
+        declared: Line::Blocked,
+    };
+
+    /// The lines in the order of the cases.
+    pub fn by_case(self) -> [Line; 5]
+        ensures { result ≡ self.contents ∷ self.version ∷ self.unicode ∷ self.tags ∷ self.declared ∷ [] }
+    {
+        let CommonLines {
+            contents,
+            version,
+            unicode,
+            tags,
+            declared,
+        } = self;
+        [contents, version, unicode, tags, declared]
+    }
+}
+
 /// Cases 4 to 8, over the value of EF.COM's template, which the reader has before it.
 pub fn common_lines(reader: Reader<'_>, declared: u16) -> CommonLines
     ensures { AreCommonLines declared reader.entry.position (rest_of reader.entry) result.contents result.version result.unicode result.tags result.declared }
 {
-    let place = reader.position;
-    let Some(contents) = read_contents(reader) else {
+    let Some(
+        Contents {
+            version,
+            unicode,
+            tags,
+        },
+    ) = read_contents(reader)
+    else {
         return CommonLines {
-            contents: Line::Fail { place },
-            version: Line::Blocked,
-            unicode: Line::Blocked,
-            tags: Line::Blocked,
-            declared: Line::Blocked,
+            contents: Line::Fail {
+                place: reader.position,
+            },
+            ..CommonLines::BLOCKED
         };
     };
-    let version = version_line(contents.version, contents.version_place);
-    let unicode = unicode_line(contents.unicode, contents.unicode_place);
-    let TagLines { tags, declared } = tag_lines(contents.tags, contents.tags_place, declared);
+    let TagLines { tags, declared } = tag_lines(tags, declared);
     CommonLines {
         contents: Line::Pass,
-        version,
-        unicode,
+        version: Line::judged(version.bytes == b"0107".as_slice(), version.place),
+        unicode: Line::judged(unicode.bytes == b"040000".as_slice(), unicode.place),
         tags,
         declared,
-    }
-}
-
-/// Case 5, over the value of `5F01` at this place.
-fn version_line(value: &[u8], place: usize) -> Line
-    ensures { Says result (value.now ≡ version_text) (λ at. at ≡ place) }
-{
-    if value == b"0107".as_slice() {
-        Line::Pass
-    } else {
-        Line::Fail { place }
-    }
-}
-
-/// Case 6, over the value of `5F36` at this place.
-fn unicode_line(value: &[u8], place: usize) -> Line
-    ensures { Says result (value.now ≡ unicode_text) (λ at. at ≡ place) }
-{
-    if value == b"040000".as_slice() {
-        Line::Pass
-    } else {
-        Line::Fail { place }
     }
 }

@@ -1,12 +1,10 @@
 //! The list of data group tags: whether it is sound (case 7), and whether it names the declared set (case 8).
-ghost use Rattle.std.specs.Prelude.{◌≡◌, ◌+◌, ◌^◌, ◌<◌, length, MatchOption, MatchResult};
+ghost use Rattle.std.specs.Prelude.{◌≡◌, ℕ, ◌+◌, ◌<◌, length, MatchOption, MatchResult};
 ghost use Rattle.common.specs.Tags.{group_tag, GroupTag, FirstBreak, Names};
 ghost use Rattle.common.specs.Lines.{AreTagLines};
 
-use card::{Line, TEMPLATE_TAGS};
-
-/// How many data groups there are.
-const GROUPS: usize = 16;
+use card::{Failure, Line, TEMPLATE_TAGS};
+use object::Value;
 
 /// The lines of cases 7 and 8.
 #[derive(Clone, Copy)]
@@ -15,42 +13,38 @@ pub(crate) struct TagLines {
     pub declared: Line,
 }
 
-/// Cases 7 and 8, over a list of tags that stands at this place.
-pub(crate) fn tag_lines(tags: &[u8], place: usize, declared: u16) -> TagLines
-    requires { place + length tags.now < 2 ^ 64 }
-    ensures { AreTagLines declared tags.now place result.tags result.declared }
+/// Cases 7 and 8, over the list of tags.
+pub(crate) fn tag_lines(tags: Value<'_>, declared: u16) -> TagLines
+    ensures { AreTagLines declared tags.entry.bytes.now tags.entry.place result.tags result.declared }
 {
     match tag_set(tags) {
-        Ok(set) => {
-            let declared = if set == declared {
-                Line::Pass
-            } else {
-                Line::Fail { place }
-            };
-            TagLines {
-                tags: Line::Pass,
-                declared,
-            }
-        }
-        Err(i) => TagLines {
-            tags: Line::Fail { place: place + i },
+        Ok(set) => TagLines {
+            tags: Line::Pass,
+            declared: Line::judged(set == declared, tags.place),
+        },
+        Err(failure) => TagLines {
+            tags: Line::from(failure),
             declared: Line::Blocked,
         },
     }
 }
 
-/// The set of the data groups whose tags are in the list, or the index of the first byte that breaks the list.
-fn tag_set(value: &[u8]) -> Result<u16, usize>
-    ensures { MatchResult result (λ set. Names value.now (length value.now) set) (λ i. FirstBreak value.now i) }
+/// The set of the data groups whose tags are in the list; else the place of the first byte that breaks the list.
+fn tag_set(tags: Value<'_>) -> Result<u16, Failure>
+    ensures { MatchResult result (λ set. Names tags.entry.bytes.now (length tags.entry.bytes.now) set) (λ failure. (i : ℕ) × FirstBreak tags.entry.bytes.now i × (failure.place ≡ tags.entry.place + i)) }
 {
     let mut set: u16 = 0;
-    for (i, tag) in value.iter().enumerate() {
+    // One walk builds the set and stops at the first byte that breaks the list, with no memory but the set.
+    for (i, tag) in tags.bytes.iter().enumerate() {
+        let failure = Failure {
+            place: tags.place + i,
+        };
         let Some(group) = group_of(*tag) else {
-            return Err(i);
+            return Err(failure);
         };
         let member = 1u16 << group;
         if set & member != 0 {
-            return Err(i);
+            return Err(failure);
         }
         set |= member;
     }
@@ -61,10 +55,5 @@ fn tag_set(value: &[u8]) -> Result<u16, usize>
 fn group_of(tag: u8) -> Option<usize>
     ensures { MatchOption result (GroupTag tag → ⊥) (λ group. (group < 16) × (group_tag group ≡ tag)) }
 {
-    for group in 0..GROUPS {
-        if TEMPLATE_TAGS[group + 1] == tag {
-            return Some(group);
-        }
-    }
-    None
+    TEMPLATE_TAGS[1..17].iter().position(|other| *other == tag)
 }

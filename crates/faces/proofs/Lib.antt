@@ -1,4 +1,3 @@
-mod Exactly
 mod Rows
 mod Groupings
 mod Risings

@@ -1,11 +1,11 @@
 -- Features in rising order, and what stands among them: one object read, and the end.
-use Rattle.std.proofs.Common.{◌≡◌, ℕ, ◌+◌, ◌<◌, Bool, true, false, List, [], ◌∷◌, length, get_or, drop, MatchBool, sym, ◌∙◌, subst, inr, ⊎_elim, add-one, arith, drop-cons}
+use Rattle.std.proofs.Common.{◌≡◌, ℕ, ◌<◌, ◌↔◌, IsTrue, Bool, true, false, List, [], ◌∷◌, length, MatchBool, refl, sym, ◌∙◌, subst, inl, inr, zero, suc, arith}
+use Rattle.std.specs.List.{AllWithin, HoldsAt}
+use Rattle.std.proofs.lemmas.Bool.{false≢true}
 use Rattle.object.specs.Objects.{Begins, Unread}
 use Rattle.object.proofs.Laws.{same, begins_long}
 use Rattle.faces.specs.declared.features.Feature.{Feature}
-use Rattle.faces.specs.Deciding.{Whether}
-use Rattle.faces.specs.Rising.{feature_list, Allows, Listed, Rising, stop, more, Has, here, later, LawfulFeatures}
-use Rattle.faces.proofs.Exactly.{Iff}
+use Rattle.faces.specs.Rising.{Allows, Listed, Rising, stop, more, Has, here, later}
 
 -- the first object of rising ones, and the others
 pub rising_first : {list : List Feature} {last t : ℕ} {xs v r : List ℕ} → Begins xs t v r → Rising list last xs → (last < t) × Listed list t (length v) × Rising list t r
@@ -18,7 +18,7 @@ rising_first {list} {last} {t} {v = v} {r = r} b (more u w s c l a h) =
     )
 
 pub rising_on : {list : List Feature} {last t : ℕ} {xs v r : List ℕ} {P : Type 0} → Begins xs t v r → last < t → Listed list t (length v) →
-    Iff (Rising list last xs) P → Iff (Rising list t r) P
+    (Rising list last xs ↔ P) → (Rising list t r ↔ P)
 rising_on {t = t} {v = v} {r = r} b l a h = (λ k. h.0 (more t v r b l a k), λ p. (rising_first b (h.1 p)).2)
 
 rising_end : {list : List Feature} {last : ℕ} {xs : List ℕ} → Unread xs → 0 < length xs → Rising list last xs → ⊥
@@ -27,37 +27,33 @@ rising_end n l (more t v r b m a s) = n t v r b
 
 -- at the end the rest rises exactly if there is none
 pub rising_when : {list : List Feature} {last : ℕ} {xs ys : List ℕ} (P : Type 0) (b : Bool) → Unread xs → ys ≡ xs → MatchBool b (ys ≡ []) (0 < length ys) →
-    Iff (Rising list last xs) P → Whether b P
-rising_when {list} {last} P true n e d h = h.0 (subst (λ z. Rising list last z) (sym d ∙ e) stop)
-rising_when P false n e d h = λ p. rising_end n (subst (λ z. 0 < length z) e d) (h.1 p)
+    (Rising list last xs ↔ P) → (IsTrue b ↔ P)
+rising_when {list} {last} P true n e d h = (λ _. h.0 (subst (λ z. Rising list last z) (sym d ∙ e) stop), λ _. refl)
+rising_when P false n e d h = (λ w. absurd (false≢true w), λ p. absurd (rising_end n (subst (λ z. 0 < length z) e d) (h.1 p)))
 
 -- where the first object is not the one, the rest has it
 past : {tag t : ℕ} {value xs v r : List ℕ} → Begins xs t v r → (t ≡ tag → v ≡ value → ⊥) → Has xs tag value → Has r tag value
 past b other (here s c) = let e = same b c in absurd (other e.0 e.1)
 past {tag} {value = value} b other (later u w s c h) = subst (λ z. Has z tag value) (same c b).2 h
 
-pub has_on : {tag t : ℕ} {value xs v r : List ℕ} {P : Type 0} → Begins xs t v r → (t ≡ tag → v ≡ value → ⊥) → Iff (Has xs tag value) P → Iff (Has r tag value) P
+pub has_on : {tag t : ℕ} {value xs v r : List ℕ} {P : Type 0} → Begins xs t v r → (t ≡ tag → v ≡ value → ⊥) → (Has xs tag value ↔ P) → (Has r tag value ↔ P)
 has_on {t = t} {v = v} {r = r} b other h = (λ k. h.0 (later t v r b k), λ p. past b other (h.1 p))
 
 pub has_here : {tag t : ℕ} {value xs v r : List ℕ} → Begins xs t v r → t ≡ tag → v ≡ value → Has xs tag value
 has_here {t = t} {value} {xs} {r = r} b e f = here r (subst (λ n. Begins xs n value r) e (subst (λ z. Begins xs t z r) f b))
 
-pub has_not : {tag : ℕ} {value xs : List ℕ} → Unread xs → Has xs tag value → ⊥
-has_not {tag} {value} n (here s c) = n tag value s c
-has_not n (later u w s c h) = n u w s c
+-- a feature of the list allows it, or none does
+found : (list : List Feature) (t n k : ℕ) → k < length list → HoldsAt (λ f. Allows f t n) list k → Listed list t n
+found [] t n k l h = absurd (omega arith)
+found (f ∷ list) t n zero l h = inl (h f)
+found (f ∷ list) t n (suc k) l h = inr (found list t n k (omega arith) h)
 
--- the list from its i-th feature on, where the i-th is not the one
-module _ (list : List Feature) (i t n : ℕ) (d : Feature) (l : i < length list) where
-  row : drop i list ≡ get_or list i d ∷ drop (i + 1) list
-  row = rw (add-one, drop-cons list i d)
+none : (list : List Feature) (t n : ℕ) → AllWithin (λ f. Allows f t n → ⊥) list 0 (length list) → Listed list t n → ⊥
+none [] t n h a = a
+none (f ∷ list) t n h (inl a) = h 0 f (omega arith) (omega arith) a
+none (f ∷ list) t n h (inr a) = none list t n (λ k d l m. h (suc k) d (omega arith) (omega arith)) a
 
-  pub listed_on : {P : Type 0} → (Allows (get_or list i d) t n → ⊥) → Iff (Listed (drop i list) t n) P → Iff (Listed (drop (i + 1) list) t n) P
-  listed_on other h = (
-    λ a. h.0 (subst (λ z. Listed z t n) (sym row) (inr a)),
-    λ p. ⊎_elim (λ f. absurd (other f)) (λ a. a) (subst (λ z. Listed z t n) row (h.1 p)),
-  )
-
--- what is left of the features' rule is the format
-pub lawful_when : {xs : List ℕ} (b : Bool) → Rising feature_list 0 xs → Has xs 0x87 (0x01 ∷ 0x01 ∷ []) → Whether b (Has xs 0x88 (0x00 ∷ 0x08 ∷ [])) → Whether b (LawfulFeatures xs)
-lawful_when true r o f = record { rising = r; owner = o; format = f }
-lawful_when false r o f = λ l. f l.format
+pub listed_when : (list : List Feature) (t n : ℕ) (b : Bool) → MatchBool b ((k : ℕ) × (k < length list) × HoldsAt (λ f. Allows f t n) list k) (AllWithin (λ f. Allows f t n → ⊥) list 0 (length list))
+    → IsTrue b ↔ Listed list t n
+listed_when list t n true h = (λ _. found list t n h.0 h.1 h.2, λ _. refl)
+listed_when list t n false h = (λ w. absurd (false≢true w), λ a. absurd (none list t n h a))

@@ -1,18 +1,17 @@
 -- Objects of one tag in a row, and the walk over them.
-use Rattle.std.proofs.Common.{◌≡◌, ℕ, zero, suc, ◌+◌, ◌-◌, ◌<◌, ◌≤◌, Bool, true, false, List, [], length, MatchBool, sym, refl, ap, subst, arith}
-use Rattle.object.specs.Objects.{Begins, Lacks}
+use Rattle.std.proofs.Common.{◌≡◌, ℕ, zero, suc, ◌+◌, ◌-◌, ◌<◌, ◌↔◌, Bool, true, false, List, [], sym, refl, subst, arith}
+use Rattle.object.specs.Objects.{Begins, Lacks, header_size}
 use Rattle.object.specs.Readers.{Took, rest_of}
 use Rattle.object.specs.declared.reader.Reader.{Reader}
 use Rattle.object.proofs.Laws.{same, begins_long}
-use Rattle.faces.specs.Deciding.{Whether}
-use Rattle.faces.specs.Rows.{Row, All, Each, done, next, Stops, here, past}
-use Rattle.faces.proofs.Exactly.{Iff}
+use Rattle.faces.specs.Rows.{Row, All, Each, done, next, Stops, here, past, FirstFailing, failed, passed}
+use Rattle.faces.specs.declared.entries.FailingEntry.{FailingEntry}
 
 -- one more object of a row of n, of which i were read
 left : (n i : ℕ) → i < n → n - i ≡ suc (n - (i + 1))
 left n i l = omega arith
 
-pub row_on : (t n i : ℕ) {xs v r : List ℕ} {P : Type 0} → i < n → Begins xs t v r → Iff (Row t (n - i) xs) P → Iff (Row t (n - (i + 1)) r) P
+pub row_on : (t n i : ℕ) {xs v r : List ℕ} {P : Type 0} → i < n → Begins xs t v r → (Row t (n - i) xs ↔ P) → (Row t (n - (i + 1)) r ↔ P)
 row_on t n i {xs} {v} {r} l b h = (
   λ w. h.0 (subst (λ k. Row t k xs) (sym (left n i l)) (v, r, b, w)),
   λ p. let u = subst (λ k. Row t k xs) (left n i l) (h.1 p) in subst (λ z. Row t (n - (i + 1)) z) (same u.2 b).2 u.3,
@@ -20,10 +19,6 @@ row_on t n i {xs} {v} {r} l b h = (
 
 pub row_not : (t n i : ℕ) {xs : List ℕ} → i < n → Lacks xs t → Row t (n - i) xs → ⊥
 row_not t n i {xs} l b w = let u = subst (λ k. Row t k xs) (left n i l) w in b u.0 u.1 u.2
-
-pub row_end : (t n i : ℕ) (xs : List ℕ) (P : Type 0) (b : Bool) → n ≤ i → MatchBool b (xs ≡ []) (0 < length xs) → Iff (Row t (n - i) xs) P → Whether b P
-row_end t n i xs P true l e h = let z : n - i ≡ 0 = omega arith in h.0 (rw z e)
-row_end t n i xs P false l e h = λ p. let z : n - i ≡ 0 = omega arith in let k : xs ≡ [] = rw z at (h.1 p) in omega (arith, ap length k)
 
 -- a row is objects of its tag
 pub row_all : (t k : ℕ) (xs : List ℕ) → Row t k xs → All t xs
@@ -45,25 +40,38 @@ stops_not {P = P} (here v r b n) (next w s c p e) = n (subst P (same c b).1 p)
 stops_not (past v r b p s) done = omega (arith, begins_long b)
 stops_not {t = t} {P = P} (past v r b p s) (next w u c q e) = stops_not s (subst (λ z. Each t P z) (same c b).2 e)
 
--- a walk from a over the objects that has come to b: what holds of the rest, or breaks in it, does so in the whole
-pub record Walk (t : ℕ) (P : List ℕ → Type 0) (place : ℕ → List ℕ → ℕ) (a b : Reader) : Type 0 where
+-- a walk from a over the objects that has come to b: where all of the rest pass the test, or one fails it, it is so in the whole
+pub record Walk (t : ℕ) (Gives : List ℕ → Bool → Type 0) (a b : Reader) : Type 0 where
   pub others : All t (rest_of b)
-  pub all : Each t P (rest_of b) → Each t P (rest_of a)
-  pub stops : (q : ℕ) → Stops t P place b.position (rest_of b) q → Stops t P place a.position (rest_of a) q
+  pub all : Each t (λ v. Gives v true) (rest_of b) → Each t (λ v. Gives v true) (rest_of a)
+  pub fails : (entry : FailingEntry) → FirstFailing t Gives b.position (rest_of b) entry → FirstFailing t Gives a.position (rest_of a) entry
 
-module _ {t : ℕ} {P : List ℕ → Type 0} {place : ℕ → List ℕ → ℕ} {a b : Reader} (w : Walk t P place a b) where
-  pub walk_step : {c : Reader} {v : List ℕ} → Took b c t v → P v → Walk t P place a c
+module _ {t : ℕ} {Gives : List ℕ → Bool → Type 0} {a b : Reader} (w : Walk t Gives a b) where
+  pub walk_step : {c : Reader} {v : List ℕ} → Took b c t v → Gives v true → Walk t Gives a c
   walk_step {c} {v} k p = record {
     others = all_next w.others k.begins;
     all = λ e. w.all (next v (rest_of c) k.begins p e);
-    stops = λ q s. w.stops q (past v (rest_of c) k.begins p (subst (λ n. Stops t P place n (rest_of c) q) k.position s));
+    fails = λ entry s. w.fails entry (passed v (rest_of c) k.begins p (subst (λ n. FirstFailing t Gives n (rest_of c) entry) k.position s));
   }
 
-  pub walk_stop : {c : Reader} {v : List ℕ} → Took b c t v → (P v → ⊥) → Stops t P place a.position (rest_of a) (place b.position v)
-  walk_stop {c} {v} k n = w.stops (place b.position v) (here v (rest_of c) k.begins n)
+  pub walk_stop : {c : Reader} {v : List ℕ} → Took b c t v → Gives v false → FirstFailing t Gives a.position (rest_of a) (record { start = b.position; value = b.position + header_size t v })
+  walk_stop {c} {v} k n = w.fails _ (failed v (rest_of c) k.begins n)
 
-  pub walk_done : Lacks (rest_of b) t → Each t P (rest_of a)
-  walk_done n = w.all (subst (λ z. Each t P z) (all_end w.others n) done)
+  pub walk_done : Lacks (rest_of b) t → Each t (λ v. Gives v true) (rest_of a)
+  walk_done n = w.all (subst (λ z. Each t (λ v. Gives v true) z) (all_end w.others n) done)
 
-pub walk_start : (t : ℕ) (P : List ℕ → Type 0) (place : ℕ → List ℕ → ℕ) (a : Reader) → All t (rest_of a) → Walk t P place a a
-walk_start t P place a h = record { others = h; all = λ e. e; stops = λ q s. s }
+-- what a test that decides P says of P
+pub each_of : {t : ℕ} {P Q : List ℕ → Type 0} {xs : List ℕ} → ((v : List ℕ) → P v → Q v) → Each t P xs → Each t Q xs
+each_of f done = done
+each_of f (next v r b p e) = next v r b (f v p) (each_of f e)
+
+-- of an entry, `pick` takes the place that the case names
+module _ {t : ℕ} {Gives : List ℕ → Bool → Type 0} (P : List ℕ → Type 0) (pick : FailingEntry → ℕ) (place : ℕ → List ℕ → ℕ)
+    (picked : (at : ℕ) (v : List ℕ) → place at v ≡ pick (record { start = at; value = at + header_size t v }))
+    (yes : (v : List ℕ) → Gives v true → P v) (no : (v : List ℕ) → Gives v false → P v → ⊥) where
+  stops_at : {p : ℕ} {xs : List ℕ} {entry : FailingEntry} → FirstFailing t Gives p xs entry → Stops t P place p xs (pick entry)
+  stops_at {p} {xs} (failed v r b n) = subst (Stops t P place p xs) (picked p v) (here v r b (no v n))
+  stops_at (passed v r b y s) = past v r b (yes v y) (stops_at s)
+
+  pub fails_at : {p q : ℕ} {xs : List ℕ} {entry : FailingEntry} → p ≡ q → FirstFailing t Gives p xs entry → (Each t P xs → ⊥) × Stops t P place q xs (pick entry)
+  fails_at {xs = xs} {entry = entry} e s = let k = stops_at s in (stops_not k, subst (λ p. Stops t P place p xs (pick entry)) e k)

@@ -1,5 +1,5 @@
 -- The group of the faces: case 21.
-use Rattle.std.specs.Prelude.{◌≡◌, ℕ, ◌+◌, ◌≤◌, List, [], ◌∷◌, length, drop}
+use Rattle.std.specs.Prelude.{◌≡◌, ℕ, ◌+◌, ◌≤◌, List, [], ◌∷◌}
 use Rattle.object.specs.Objects.{Begins, header_size}
 use Rattle.object.specs.Readers.{rest_of}
 use Rattle.object.specs.declared.reader.Reader.{Reader}
@@ -26,10 +26,10 @@ Grouped value = (count : ℕ) × (group : List ℕ) × (entries : List ℕ) × G
 abbrev pub entries_place : ℕ → ℕ → List ℕ → ℕ
 entries_place place count group = place + header_size 0x7F61 group + header_size 0x02 (count ∷ []) + 1
 
--- what the reader has before it is a group, whose entries stand at this place and end with the bytes
-pub record Found (reader : Reader) (place : ℕ) : Type 0 where
+-- what the reader has before it is a group, whose entries the other reader has before it, in the same bytes
+pub record Found (reader entries : Reader) : Type 0 where
   pub count : ℕ
   pub inside : List ℕ
-  pub group : Group (rest_of reader) count inside (drop place reader.bytes.now)
-  pub at : place ≡ entries_place reader.position count inside
-  pub within : place ≤ length reader.bytes.now
+  pub group : Group (rest_of reader) count inside (rest_of entries)
+  pub at : entries.position ≡ entries_place reader.position count inside
+  pub bytes : entries.bytes.now ≡ reader.bytes.now

@@ -1,4 +1,3 @@
-pub mod Deciding
 pub mod Rows
 pub mod Groups
 pub mod Rising

@@ -1,6 +1,7 @@
 -- Objects of one tag, one after the other.
-use Rattle.std.specs.Prelude.{◌≡◌, ℕ, zero, suc, ◌+◌, List, [], length}
+use Rattle.std.specs.Prelude.{◌≡◌, ℕ, zero, suc, ◌+◌, Bool, true, false, List, [], length}
 use Rattle.object.specs.Objects.{Begins, header_size}
+use Rattle.faces.specs.declared.entries.FailingEntry.{FailingEntry}
 
 -- the bytes are exactly so many objects of this tag
 abbrev pub Row : ℕ → ℕ → List ℕ → Type 0
@@ -22,3 +23,11 @@ pub data Stops (tag : ℕ) (P : List ℕ → Type 0) (place : ℕ → List ℕ �
   here : {at : ℕ} {bytes : List ℕ} (value rest : List ℕ) → Begins bytes tag value rest → (P value → ⊥) → Stops tag P place at bytes (place at value)
   past : {at stop : ℕ} {bytes : List ℕ} (value rest : List ℕ) → Begins bytes tag value rest → P value
       → Stops tag P place (at + header_size tag value + length value) rest stop → Stops tag P place at bytes stop
+
+-- The bytes, objects of this tag, stand at the first place, and a test looks at their values; `Gives` says what it answers.
+-- It answers yes at those before this entry, and no at the entry.
+pub data FirstFailing (tag : ℕ) (Gives : List ℕ → Bool → Type 0) : ℕ → List ℕ → FailingEntry → Type 0 where
+  failed : {at : ℕ} {bytes : List ℕ} (value rest : List ℕ) → Begins bytes tag value rest → Gives value false
+      → FirstFailing tag Gives at bytes (record { start = at; value = at + header_size tag value })
+  passed : {at : ℕ} {bytes : List ℕ} {entry : FailingEntry} (value rest : List ℕ) → Begins bytes tag value rest → Gives value true
+      → FirstFailing tag Gives (at + header_size tag value + length value) rest entry → FirstFailing tag Gives at bytes entry

@@ -1,9 +1,8 @@
 //! Cases 22 and 23, entry by entry: which objects an entry holds, and what stands in its header.
-ghost use Rattle.std.specs.Prelude.{◌+◌, MatchResult};
-ghost use Rattle.object.specs.Objects.{header_size};
+ghost use Rattle.std.specs.Prelude.{◌↔◌, true, IsTrue, MatchResult};
+ghost use Rattle.std.specs.Fn.{FnReturnsAt};
 ghost use Rattle.object.specs.Readers.{rest_of};
-ghost use Rattle.faces.specs.Deciding.{Whether};
-ghost use Rattle.faces.specs.Rows.{All, Each, Stops};
+ghost use Rattle.faces.specs.Rows.{All, Each, FirstFailing};
 ghost use Rattle.faces.specs.Faces.{Entry, Described};
 
 use crate::features::are_lawful;
@@ -16,69 +15,53 @@ const HEADER: u16 = 0xA1;
 /// The tag of an entry's face block.
 const BLOCK: u16 = 0x5F2E;
 
-/// The least length of a face block: it is not empty.
-const LEAST_BLOCK: usize = 1;
+/// An entry that fails a test: where it starts, and where its value does.
+#[derive(Clone, Copy)]
+pub(crate) struct FailingEntry {
+    pub start: usize,
+    pub value: usize,
+}
 
-/// Case 22: `Ok` exactly if each entry holds a header and a face block; else the start of the first that does not.
-pub(crate) fn check_contents(mut reader: Reader<'_>) -> Result<(), usize>
-    requires { All 0x7F60 (rest_of reader) }
-    ensures { MatchResult result (λ _. Each 0x7F60 Entry (rest_of reader.entry))
-        (λ q. Stops 0x7F60 Entry (λ at _. at) reader.entry.position (rest_of reader.entry) q) }
+/// Tests the value of each entry; `Ok` exactly if all of them pass, else the first entry whose value fails.
+pub(crate) fn check_entries<F: Fn(&[u8]) -> bool>(
+    mut entries: Reader<'_>,
+    passes: F,
+) -> Result<(), FailingEntry>
+    requires callable { F.IsAlwaysCallable passes }
+    requires tagged { All 0x7F60 (rest_of entries) }
+    ensures { MatchResult result (λ _. Each 0x7F60 (λ v. FnReturnsAt F.Fn passes v true) (rest_of entries.entry))
+        (λ entry. FirstFailing 0x7F60 (FnReturnsAt F.Fn passes) entries.entry.position (rest_of entries.entry) entry) }
 {
-    let mut start = reader.position;
-    while let Some(value) = reader.take(ENTRY) {
-        if !is_entry(value) {
-            return Err(start);
+    let mut start = entries.position;
+    while let Some(value) = entries.take(ENTRY) {
+        if !passes(value.bytes) {
+            return Err(FailingEntry {
+                start,
+                value: value.place,
+            });
         }
-        start = reader.position;
+        start = entries.position;
     }
     Ok(())
 }
 
-/// Case 23: `Ok` exactly if the features in each header are lawful; else the start of the first header where they are not.
-pub(crate) fn check_features(mut reader: Reader<'_>) -> Result<(), usize>
-    requires { All 0x7F60 (rest_of reader) }
-    ensures { MatchResult result (λ _. Each 0x7F60 Described (rest_of reader.entry))
-        (λ q. Stops 0x7F60 Described (λ at v. at + header_size 0x7F60 v) reader.entry.position (rest_of reader.entry) q) }
+/// Case 22: whether an entry's value is a header and a face block that is not empty.
+pub(crate) fn is_entry(value: &[u8]) -> bool
+    ensures { IsTrue result ↔ Entry value.now }
 {
-    while let Some(value) = reader.take(ENTRY) {
-        if !is_described(value) {
-            return Err(reader.position - value.len());
-        }
-    }
-    Ok(())
+    let mut reader = Reader::new(value);
+    reader.take(HEADER).is_some()
+        && reader
+            .take(BLOCK)
+            .is_some_and(|block| !block.bytes.is_empty())
+        && reader.is_done()
 }
 
-/// Whether an entry's value is a header and a face block that is not empty.
-fn is_entry(value: &[u8]) -> bool
-    ensures { Whether result (Entry value.now) }
+/// Case 23: whether an entry's value begins with a header whose features are lawful.
+pub(crate) fn is_described(value: &[u8]) -> bool
+    ensures { IsTrue result ↔ Described value.now }
 {
-    let mut reader = Reader {
-        bytes: value,
-        position: 0,
-    };
-    let Some(_) = reader.take(HEADER) else {
-        return false;
-    };
-    let Some(block) = reader.take(BLOCK) else {
-        return false;
-    };
-    if block.len() < LEAST_BLOCK {
-        return false;
-    }
-    reader.is_done()
-}
-
-/// Whether an entry's value begins with a header whose features are lawful.
-fn is_described(value: &[u8]) -> bool
-    ensures { Whether result (Described value.now) }
-{
-    let mut reader = Reader {
-        bytes: value,
-        position: 0,
-    };
-    let Some(features) = reader.take(HEADER) else {
-        return false;
-    };
-    are_lawful(features)
+    Reader::new(value)
+        .take(HEADER)
+        .is_some_and(|header| are_lawful(header.bytes))
 }

@@ -1,11 +1,10 @@
 //! The features of a face, which stand in its entry's header: plain objects from a list, in rising order of tags, with
 //! the owner and the format of the face block among them.
-ghost use Rattle.std.specs.Option.{MatchOption};
-ghost use Rattle.object.specs.Readers.{rest_of, Stuck, Took};
-ghost use Rattle.faces.specs.Deciding.{Whether};
+ghost use Rattle.std.specs.Prelude.{◌↔◌, IsTrue};
+ghost use Rattle.object.specs.Readers.{rest_of};
 ghost use Rattle.faces.specs.Rising.{feature_list, Allows, Listed, Rising, Has, LawfulFeatures};
 
-use object::{Object, Reader};
+use object::Reader;
 
 /// A feature that a header may hold: its tag, and the least and the greatest length of its value.
 #[derive(Clone, Copy)]
@@ -18,9 +17,9 @@ pub struct Feature {
 impl Feature {
     /// Whether the feature has this tag, and its value may have this length.
     fn allows(self, tag: u16, length: usize) -> bool
-        ensures { Whether result (Allows self tag length) }
+        ensures { IsTrue result ↔ Allows self tag length }
     {
-        self.tag == tag && self.least <= length && length <= self.most
+        self.tag == tag && (self.least..=self.most).contains(&length)
     }
 }
 
@@ -82,20 +81,20 @@ const FEATURES: [Feature; 8] = [
 
 /// Whether a header's value is lawful: features in rising order, with the owner and the format that a face block has.
 pub(crate) fn are_lawful(bytes: &[u8]) -> bool
-    ensures { Whether result (LawfulFeatures bytes.now) }
+    ensures { IsTrue result ↔ LawfulFeatures bytes.now }
 {
-    are_rising(Reader { bytes, position: 0 })
-        && has(Reader { bytes, position: 0 }, OWNER, &FACE_OWNER)
-        && has(Reader { bytes, position: 0 }, FORMAT, &FACE_FORMAT)
+    let reader = Reader::new(bytes);
+    are_rising(reader) && has(reader, OWNER, &FACE_OWNER) && has(reader, FORMAT, &FACE_FORMAT)
 }
 
 /// Whether the reader has features before it, in rising order of tags and none twice.
 fn are_rising(mut reader: Reader<'_>) -> bool
-    ensures { Whether result (Rising feature_list 0 (rest_of reader.entry)) }
+    ensures { IsTrue result ↔ Rising feature_list 0 (rest_of reader.entry) }
 {
     let mut last = 0;
-    while let Some((tag, value)) = next_object(&mut reader) {
-        if tag <= last || !is_listed(tag, value.len()) {
+    while let Some(object) = reader.next() {
+        let tag = object.tag();
+        if tag <= last || !is_listed(tag, object.value().len()) {
             return false;
         }
         last = tag;
@@ -105,10 +104,10 @@ fn are_rising(mut reader: Reader<'_>) -> bool
 
 /// Whether one of the objects that the reader has before it has this tag and value.
 fn has(mut reader: Reader<'_>, tag: u16, value: &[u8]) -> bool
-    ensures { Whether result (Has (rest_of reader.entry) tag value.now) }
+    ensures { IsTrue result ↔ Has (rest_of reader.entry) tag value.now }
 {
-    while let Some((other, content)) = next_object(&mut reader) {
-        if other == tag && content == value {
+    while let Some(object) = reader.next() {
+        if object.tag() == tag && object.value() == value {
             return true;
         }
     }
@@ -117,30 +116,7 @@ fn has(mut reader: Reader<'_>, tag: u16, value: &[u8]) -> bool
 
 /// Whether a feature of the list has this tag, and its value may have this length.
 fn is_listed(tag: u16, length: usize) -> bool
-    ensures { Whether result (Listed feature_list tag length) }
+    ensures { IsTrue result ↔ Listed feature_list tag length }
 {
-    for feature in &FEATURES {
-        if feature.allows(tag, length) {
-            return true;
-        }
-    }
-    false
-}
-
-/// The tag and the value of the next object, if there is one; the position is then past it, and else where it was.
-fn next_object<'a>(reader: &mut Reader<'a>) -> Option<(u16, &'a [u8])>
-    ensures { MatchOption result (Stuck reader.old reader.new) (λ o. Took reader.old reader.new o.0 o.1.now) }
-{
-    match reader.next()? {
-        Object::Plain {
-            tag,
-            place: _,
-            value,
-        } => Some((tag, value)),
-        Object::Nested {
-            tag,
-            place: _,
-            value,
-        } => Some((tag, value)),
-    }
+    FEATURES.iter().any(|feature| feature.allows(tag, length))
 }

@@ -1,7 +1,6 @@
 //! Case 21: the template holds one group of faces, in which a count stands before as many entries.
-ghost use Rattle.std.specs.Prelude.{ℕ, MatchOption};
+ghost use Rattle.std.specs.Prelude.{◌↔◌, ℕ, IsTrue, MatchOption};
 ghost use Rattle.object.specs.Readers.{rest_of};
-ghost use Rattle.faces.specs.Deciding.{Whether};
 ghost use Rattle.faces.specs.Rows.{Row};
 ghost use Rattle.faces.specs.Groups.{Counts, Grouped, Found};
 
@@ -22,27 +21,20 @@ const LEAST_FACES: u8 = 1;
 /// The greatest count.
 const MOST_FACES: u8 = 9;
 
-/// Where the entries stand, if case 21 holds of what the reader has before it; `None` exactly if it does not.
-pub(crate) fn find_entries(mut reader: Reader<'_>) -> Option<usize>
-    ensures { MatchOption result (Grouped (rest_of reader.entry) → ⊥) (λ p. Found reader.entry p) }
+/// A reader at the entries, if case 21 holds of what the reader has before it; `None` exactly if it does not.
+pub(crate) fn find_entries(mut reader: Reader<'_>) -> Option<Reader<'_>>
+    ensures { MatchOption result (Grouped (rest_of reader.entry) → ⊥) (λ entries. Found reader.entry entries) }
 {
-    let bytes = reader.bytes;
     let group = reader.take(GROUP)?;
     if !reader.is_done() {
         return None;
     }
     let mut inside = Reader {
-        bytes,
-        position: reader.position - group.len(),
+        bytes: reader.bytes,
+        position: group.place,
     };
-    let value = inside.take(COUNT)?;
-    let count = read_count(value)?;
-    let position = inside.position;
-    if is_row(inside, ENTRY, count) {
-        Some(position)
-    } else {
-        None
-    }
+    let count = read_count(inside.take(COUNT)?.bytes)?;
+    is_row(inside, ENTRY, count).then_some(inside)
 }
 
 /// The count, if the value is one byte from 1 to 9; `None` exactly if it is not.
@@ -50,19 +42,19 @@ fn read_count(value: &[u8]) -> Option<u8>
     ensures { MatchOption result ((k : ℕ) → Counts value.now k → ⊥) (λ k. Counts value.now k) }
 {
     match value {
-        [count] if *count >= LEAST_FACES && *count <= MOST_FACES => Some(*count),
+        [count @ LEAST_FACES..=MOST_FACES] => Some(*count),
         _ => None,
     }
 }
 
 /// Whether the reader has exactly so many objects of this tag before it.
 fn is_row(mut reader: Reader<'_>, tag: u16, count: u8) -> bool
-    ensures { Whether result (Row tag count (rest_of reader.entry)) }
+    ensures { IsTrue result ↔ Row tag count (rest_of reader.entry) }
 {
-    for _i in 0..count {
-        let Some(_) = reader.take(tag) else {
+    for _ in 0..count {
+        if reader.take(tag).is_none() {
             return false;
-        };
+        }
     }
     reader.is_done()
 }

@@ -1,8 +1,9 @@
 //! The lines of cases 21 to 23, of which each waits for the one before.
+ghost use Rattle.std.specs.Prelude.{◌≡◌, [], ◌∷◌};
 ghost use Rattle.object.specs.Readers.{rest_of};
 ghost use Rattle.faces.specs.Faces.{AreFaceLines};
 
-use crate::entries::{check_contents, check_features};
+use crate::entries::{check_entries, is_described, is_entry};
 use crate::group::find_entries;
 use card::Line;
 use object::Reader;
@@ -15,36 +16,53 @@ pub struct FaceLines {
     pub features: Line,
 }
 
+impl FaceLines {
+    /// The lines where an earlier case failed.
+    pub const BLOCKED: FaceLines = FaceLines {
+        group: Line::Blocked,
+        entries: Line::Blocked,
+        features: Line::Blocked,
+    };
+
+    /// The lines in the order of the cases.
+    pub fn by_case(self) -> [Line; 3]
+        ensures { result ≡ self.group ∷ self.entries ∷ self.features ∷ [] }
+    {
+        let FaceLines {
+            group,
+            entries,
+            features,
+        } = self;
+        [group, entries, features]
+    }
+}
+
 /// Cases 21 to 23, over the value of DG2's template, which the reader has before it.
 pub fn face_lines(reader: Reader<'_>) -> FaceLines
     ensures { AreFaceLines reader.entry.position (rest_of reader.entry) result.group result.entries result.features }
 {
-    let bytes = reader.bytes;
-    let start = reader.position;
-    let Some(position) = find_entries(reader) else {
+    let Some(entries) = find_entries(reader) else {
         return FaceLines {
-            group: Line::Fail { place: start },
-            entries: Line::Blocked,
-            features: Line::Blocked,
+            group: Line::Fail {
+                place: reader.position,
+            },
+            ..FaceLines::BLOCKED
         };
     };
-    if let Err(place) = check_contents(Reader { bytes, position }) {
+    if let Err(entry) = check_entries(entries, is_entry) {
         return FaceLines {
             group: Line::Pass,
-            entries: Line::Fail { place },
-            features: Line::Blocked,
+            entries: Line::Fail { place: entry.start },
+            ..FaceLines::BLOCKED
         };
     }
-    match check_features(Reader { bytes, position }) {
-        Ok(()) => FaceLines {
-            group: Line::Pass,
-            entries: Line::Pass,
-            features: Line::Pass,
-        },
-        Err(place) => FaceLines {
-            group: Line::Pass,
-            entries: Line::Pass,
-            features: Line::Fail { place },
-        },
+    let features = match check_entries(entries, is_described) {
+        Ok(()) => Line::Pass,
+        Err(entry) => Line::Fail { place: entry.value },
+    };
+    FaceLines {
+        group: Line::Pass,
+        entries: Line::Pass,
+        features,
     }
 }

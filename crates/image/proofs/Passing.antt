@@ -1,8 +1,18 @@
 -- Going through a row, field by field: what has been passed, and where it ends or breaks.
-use Rattle.std.proofs.Common.{◌≡◌, ℕ, ◌+◌, ◌-◌, ◌<◌, ◌≤◌, true, false, cond, eqb, List, [], ◌∷◌, length, Some, None, Err, sym, ap, ◌∙◌, subst, inr, arith, length-append, rules}
+use Rattle.std.proofs.Common.{◌≡◌, ℕ, Bool, ◌+◌, ◌-◌, ◌<◌, ◌≤◌, true, false, cond, eqb, List, [], ◌∷◌, length, Some, None, Ok, Err, Option, Result, sym, ap, ◌∙◌, subst, inl, inr, arith, length-append, rules}
+use denote.Param.Members.{Mut}
+use denote.Ref.{Bor}
 use Rattle.std.proofs.lemmas.List.{nil_from_length}
+use Rattle.std.specs.Fn.{CalledAt}
+use Rattle.std.specs.Iterator.{Yields, FindsItem}
+use Rattle.std.specs.List.{FoldsTo}
+use Rattle.std.specs.Option.{option_map}
+use Rattle.std.specs.Result.{result_unwrap_or}
 use Rattle.image.specs.Images.{Field, field, written, Lawful, Rising, IsImage, Breaks, here, later, file_of, files_in}
 use Rattle.image.specs.Checks.{Starts, ImageOf, BrokenAt, Checks, StandsFor}
+use Rattle.image.specs.declared.image.StoredField.{StoredField}
+use Rattle.image.specs.declared.image.Fields.{Fields}
+use Rattle.image.specs.declared.image.Image.{Image}
 use Rattle.image.specs.declared.image.ImageRefusal.{ImageRefusal}
 use Rattle.image.specs.declared.image.ImageRefusal.TheVariants.{Malformed}
 use Rattle.image.proofs.Rows.{same_field, files_next, files_of_written, one_row, one_row_of_files, no_break, one_break, too_few}
@@ -12,13 +22,6 @@ pub record Passed (bytes rest : List ℕ) (lowest : ℕ) : Type 0 where
   pub within : length rest ≤ length bytes
   pub breaks : (q : ℕ) → Breaks lowest (length bytes - length rest) rest q → Breaks 0 0 bytes q
   pub fields : (fs : List Field) → Rising lowest fs → written fs ≡ rest → (gs : List Field) × IsImage bytes gs
-
-pub none_yet : (bytes : List ℕ) → Passed bytes bytes 0
-none_yet bytes = record {
-  within = omega arith;
-  breaks = λ q b. subst (λ p. Breaks 0 p bytes q) (let z : length bytes - length bytes ≡ 0 = omega arith in z) b;
-  fields = λ fs r e. (fs, record { lawful = r; writes = e });
-}
 
 pub long : (k : ℕ) (bs next rest : List ℕ) → field k bs next ≡ rest → length rest ≡ length next + 3 + length bs
 long k bs next rest e = sym (ap length e) ∙ omega (arith, length-append bs next)
@@ -46,8 +49,8 @@ out_of_order bytes rest next lowest k bs p e n =
     n (omega (arith, w.rises)) (omega (arith, w.card)))))
 
 -- bytes that no field begins
-pub unread : (bytes rest : List ℕ) (lowest : ℕ) → Passed bytes rest lowest → Starts rest None → 0 < length rest → BrokenAt bytes (length bytes - length rest)
-unread bytes rest lowest p s h = broken bytes (length bytes - length rest) (p.breaks _ (here h (λ k bs more w e. s.1 k bs more w.short e)))
+pub unread : (bytes rest next : List ℕ) (lowest : ℕ) → Passed bytes rest lowest → Starts rest None next → 0 < length rest → BrokenAt bytes (length bytes - length rest)
+unread bytes rest next lowest p s h = broken bytes (length bytes - length rest) (p.breaks _ (here h (λ k bs more w e. s.1 k bs more w.short e)))
 
 image_of : (bytes : List ℕ) (fs : List Field) → IsImage bytes fs → ImageOf bytes (files_in bytes)
 image_of bytes fs i =
@@ -67,8 +70,9 @@ all_passed bytes rest lowest p h =
     image_of bytes g.0 g.1
 
 -- bytes that are no image stand for no files
-pub stands_empty : (bytes image : List ℕ) (r : ImageRefusal) → Checks bytes (Err r) → length image ≤ 0 → StandsFor bytes (files_in image)
-stands_empty bytes image (Malformed p) b h = inr (record { place = p; broken = b; none = (too_few image (omega arith)).0 })
+pub stands : (bytes : List ℕ) (checked : Result Image ImageRefusal) (without : Image) → Checks bytes checked → length without.row.now ≤ 0 → StandsFor bytes (files_in (result_unwrap_or checked without).row.now)
+stands bytes (Ok image) without h e = inl h
+stands bytes (Err (Malformed place)) without h e = inr (record { place = place; broken = h; none = (too_few without.row.now [] (omega arith)).0 })
 
 -- a file that is sought field by field
 pub found : (k j : ℕ) (bs next rest : List ℕ) → length bs ≤ 32767 → field k bs next ≡ rest → k ≡ j → files_in rest j ≡ Some bs
@@ -80,3 +84,20 @@ pub passed_by : (k j : ℕ) (bs next rest : List ℕ) → length bs ≤ 32767 �
 passed_by k j bs next rest h e n =
     let t : eqb k j ≡ false = search rules in
     ap (λ xs. files_in xs j) (sym e) ∙ files_next k j bs next h ∙ ap (λ b. cond b (Some bs) (files_in next j)) t
+
+-- a search for a number, by a closure that finds fields of that number and no others, and stays as it is
+module _ {P : Type 0} {g : Mut P (Bor StoredField × Unit {0}) Bool} {p : P} (j : ℕ)
+    (misses : (x : StoredField) (q : P) → CalledAt g p x false q → (q ≡ p) × (x.number ≡ j → ⊥)) (hits : (x : StoredField) (q : P) → CalledAt g p x true q → x.number ≡ j) where
+  none_before : (xs : List StoredField) (s t : Fields) (q : P) → Yields (λ s r t. Starts s.row.now r t.row.now) s xs t → FoldsTo (λ p x q. CalledAt g p x false q) p xs q → (files_in s.row.now j ≡ files_in t.row.now j) × (p ≡ q)
+  none_before [] s t q y f = (ap (λ z. files_in z.row.now j) y, f)
+  none_before (x ∷ xs) s t q y f =
+      let m = misses x f.0 f.1 in
+      let rest = none_before xs y.0 t q y.2 (subst (λ z. FoldsTo (λ p x q. CalledAt g p x false q) z xs q) m.0 f.2) in
+      (passed_by x.number j x.content.now y.0.row.now s.row.now y.1.0 y.1.1 m.1 ∙ rest.0, rest.1)
+
+  pub sought : (s u : Fields) (r : Option StoredField) → FindsItem (λ s r t. Starts s.row.now r t.row.now) g s p r u → option_map (λ x. x.content.now) r ≡ files_in s.row.now j
+  sought s u None ran = let before = none_before ran.0 s ran.2.0 ran.1 ran.2.1 ran.3 in sym (before.0 ∙ ran.2.2.0 j)
+  sought s u (Some x) ran =
+      let before = none_before ran.0 s ran.2.0 ran.1 ran.2.1 ran.3 in
+      let hit = subst (λ z. CalledAt g z x true ran.4.0) (sym before.1) ran.4.1 in
+      sym (before.0 ∙ found x.number j x.content.now u.row.now ran.2.0.row.now ran.2.2.0 ran.2.2.1 (hits x ran.4.0 hit))

@@ -1,6 +1,6 @@
 -- Rows of fields: what stands at the start of one, what that says of its files, and that one row only writes given bytes.
 use Rattle.std.proofs.Common.{◌≡◌, ℕ, zero, suc, ◌+◌, ◌*◌, ◌/◌, ◌%◌, ◌<◌, ◌≤◌, true, false, cond, eqb, leb, List, [], ◌∷◌, ◌++◌, length, get_or, take, drop, Some, None, Option, sym, refl, ap, ◌∙◌, subst, ⊎_elim, arith, length-append, rules}
-use Rattle.std.proofs.lemmas.Nat.{div-add-mod', div-mul-add, mod-mul-add}
+use Rattle.std.proofs.lemmas.Nat.{div-add-mod'}
 use Rattle.std.proofs.lemmas.List.{take_at, drop_at}
 use Rattle.std.proofs.lemmas.Bool.{cases_lt}
 use Rattle.image.specs.Images.{Field, field, written, Rising, Breaks, here, later, file_of, fields_after, files_in}
@@ -81,32 +81,22 @@ no_file a h l ys n = ⊎_elim
     rw s (rw t))
     (cases_lt 32767 (h * 256 + l))
 
-pub too_few : (xs : List ℕ) → length xs < 3 → Starts xs None
+pub too_few : (xs next : List ℕ) → length xs < 3 → Starts xs None next
 unfolding files_in fields_after
-too_few [] h = (λ k. refl, λ k bs rest s e. let z : ◌≡◌ {A = ℕ} 0 1 = cc in absurd (omega arith))
-too_few (a ∷ []) h = (λ k. refl, λ k bs rest s e. let z : ◌≡◌ {A = ℕ} 0 1 = cc in absurd (omega arith))
-too_few (a ∷ (b ∷ [])) h = (λ k. refl, λ k bs rest s e. let z : ◌≡◌ {A = ℕ} 0 1 = cc in absurd (omega arith))
-too_few (a ∷ (b ∷ (c ∷ ys))) h = absurd (omega arith)
+too_few [] next h = (λ k. refl, λ k bs rest s e. let z : ◌≡◌ {A = ℕ} 0 1 = cc in absurd (omega arith))
+too_few (a ∷ []) next h = (λ k. refl, λ k bs rest s e. let z : ◌≡◌ {A = ℕ} 0 1 = cc in absurd (omega arith))
+too_few (a ∷ (b ∷ [])) next h = (λ k. refl, λ k bs rest s e. let z : ◌≡◌ {A = ℕ} 0 1 = cc in absurd (omega arith))
+too_few (a ∷ (b ∷ (c ∷ ys))) next h = absurd (omega arith)
 
-pub no_room : (xs : List ℕ) → 3 ≤ length xs → (get_or xs 1 0 * 256 + get_or xs 2 0 ≤ 32767 → length (drop 3 xs) < get_or xs 1 0 * 256 + get_or xs 2 0) → Starts xs None
+pub no_room : (xs next : List ℕ) → 3 ≤ length xs → (get_or xs 1 0 * 256 + get_or xs 2 0 ≤ 32767 → length (drop 3 xs) < get_or xs 1 0 * 256 + get_or xs 2 0) → Starts xs None next
 unfolding files_in
-no_room [] h n = absurd (omega arith)
-no_room (a ∷ []) h n = absurd (omega arith)
-no_room (a ∷ (b ∷ [])) h n = absurd (omega arith)
-no_room (a ∷ (b ∷ (c ∷ ys))) h n = (
+no_room [] next h n = absurd (omega arith)
+no_room (a ∷ []) next h n = absurd (omega arith)
+no_room (a ∷ (b ∷ [])) next h n = absurd (omega arith)
+no_room (a ∷ (b ∷ (c ∷ ys))) next h n = (
   λ k. ap (λ fs. file_of fs k) (no_file a b c ys n),
   λ k bs rest s e. let p = parts k a b c bs rest ys e in let q : length (bs ++ rest) ≡ length ys = ap length p.2 in let m = n (omega arith) in omega (arith, length-append bs rest),
 )
-
--- a field that was cut from bytes writes them
-pub whole : (xs content rest : List ℕ) → 3 ≤ length xs → get_or xs 2 0 < 256 → length content ≡ get_or xs 1 0 * 256 + get_or xs 2 0 → drop 3 xs ≡ content ++ rest → field (get_or xs 0 0) content rest ≡ xs
-whole [] content rest h b l e = absurd (omega arith)
-whole (x ∷ []) content rest h b l e = absurd (omega arith)
-whole (x ∷ (y ∷ [])) content rest h b l e = absurd (omega arith)
-whole (x ∷ (y ∷ (z ∷ ys))) content rest h b l e =
-    let p : length content / 256 ≡ y = ap (λ n. n / 256) l ∙ div-mul-add y 256 z b in
-    let q : length content % 256 ≡ z = ap (λ n. n % 256) l ∙ mod-mul-add y 256 z b in
-    cc
 
 -- a lawful row breaks nowhere
 pub no_break : (lowest p q : ℕ) (xs : List ℕ) (fs : List Field) → Rising lowest fs → written fs ≡ xs → Breaks lowest p xs q → ⊥

@@ -4,7 +4,7 @@ use Rattle.card.specs.Cards.{Files}
 use Rattle.card.specs.Refusals.{Under, no_other}
 use Rattle.image.specs.Images.{Field, field, files_in, file_of, IsImage, Breaks}
 use Rattle.image.specs.Numbers.{of_image}
-use Rattle.image.specs.declared.image.FirstField.{FirstField}
+use Rattle.image.specs.declared.image.StoredField.{StoredField}
 use Rattle.image.specs.declared.image.Image.{Image}
 use Rattle.image.specs.declared.image.ImageRefusal.{ImageRefusal}
 
@@ -37,7 +37,7 @@ pub record WithoutFiles (bytes : List ℕ) (files : Files) : Type 0 where
 abbrev pub StandsFor : List ℕ → Files → Type 0
 StandsFor bytes files = ImageOf bytes files ⊎ WithoutFiles bytes files
 
--- the field at the start of a row, whatever its number
-abbrev pub Starts : List ℕ → Option FirstField → Type 0
-Starts row None = ((number : ℕ) → files_in row number ≡ None) × ((number : ℕ) (content rest : List ℕ) → length content ≤ 32767 → field number content rest ≢ row)
-Starts row (Some f) = (length f.content.now ≤ 32767) × (field f.number f.content.now f.rest.now ≡ row)
+-- the field at the start of a row, whatever its number, and the row behind it
+abbrev pub Starts : List ℕ → Option StoredField → List ℕ → Type 0
+Starts row None rest = ((number : ℕ) → files_in row number ≡ None) × ((number : ℕ) (content rest : List ℕ) → length content ≤ 32767 → field number content rest ≢ row)
+Starts row (Some f) rest = (length f.content.now ≤ 32767) × (field f.number f.content.now rest ≡ row)

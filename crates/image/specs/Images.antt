@@ -1,7 +1,8 @@
 -- What an image means: a row of fields, each a file's number, its length in two bytes, high byte first, and the file.
 -- It is said by writing. The one reading, `fields_after`, is tied to the writing by what checking an image promises.
 use Rattle.std.specs.Prelude.{◌≡◌, ℕ, zero, suc, ◌+◌, ◌*◌, ◌/◌, ◌%◌, ◌<◌, ◌≤◌, Bool, true, false, cond, List, [], ◌∷◌, ◌++◌, length, take, Some, None, Option, ◌==◌, ◌≢◌, nat_le, refl}
-use Rattle.std.proofs.Common.{arith, length-take, leb-true}
+use Rattle.std.proofs.Common.{length-take, leb-true, sym, subst}
+use Rattle.std.proofs.Math.Nat.{le_trans, min-le_left}
 use Rattle.card.specs.Cards.{Files, Short}
 
 -- a field: a file's number and its bytes
@@ -80,7 +81,7 @@ short_after zero (k ∷ []) j = tt
 short_after zero (k ∷ (h ∷ [])) j = tt
 short_after zero (k ∷ (h ∷ (l ∷ xs))) j =
     short_where (nat_le (h * 256 + l) 32767) (nat_le (h * 256 + l) (length xs)) (record { number = k; content = take (h * 256 + l) xs }) (fields_after (h * 256 + l) xs) j
-    (λ e. let s : h * 256 + l ≤ 32767 = leb-true _ _ e in simp length-take (omega arith)) (short_after (h * 256 + l) xs j)
+    (λ e. le_trans (subst (λ n. n ≤ h * 256 + l) (sym (length-take (h * 256 + l) xs)) (min-le_left (h * 256 + l) (length xs))) (leb-true _ _ e)) (short_after (h * 256 + l) xs j)
 
 pub files_short : (row : List ℕ) (number : ℕ) → Short (files_in row number)
 unfolding files_in

@@ -1,11 +1,10 @@
 //! The chip: an image behind a link that takes a number of commands and gives a few bytes at a time.
-ghost use Rattle.std.specs.Prelude.{◌≡◌, ◌-◌, ◌<◌, ◌≤◌, min, max, true, ◌==◌};
-ghost use Rattle.source.specs.Reads.{WellFormed, Reads};
+ghost use Rattle.std.specs.Prelude.{◌≡◌, min, max, ◌==◌};
 ghost use Rattle.image.specs.Images.{files_in, files_short};
-ghost use Rattle.image.specs.Counts.{Fully, LostWhenSpent, Tells};
+ghost use Rattle.image.specs.Counts.{Fully, LostWhenSpent, Tells, UsesCommand};
 
 use crate::image::Image;
-use source::{Answer, Fault, Loss, Source, well_formed};
+use source::{Fault, Loss, Source, well_formed};
 
 /// The smallest span: a chip gives at least so many bytes of those that are left.
 const LEAST_SPAN: u8 = 1;
@@ -40,9 +39,12 @@ impl<'a> Source for Chip<'a> {
 
     ghost bounded = { λ s f. files_short s.image.row.now f };
 
-    ghost steps = { λ s file place wanted t. (t.image ≡ s.image) × (t.span ≡ s.span) × (t.commands ≡ s.commands - 1) };
+    ghost steps = { λ s file place wanted t. UsesCommand s t };
 
-    ghost outcomes = { λ s file place wanted r t. (t.image ≡ s.image) × (t.span ≡ s.span) × (t.commands ≡ s.commands - 1) × Tells (files_in s.image.row.now file) place (min (max s.span 1) wanted) (s.commands == 0) r };
+    ghost outcomes = { λ s file place wanted r t.
+        let content = files_in s.image.row.now file in
+        let most = min (max s.span 1) wanted in
+        UsesCommand s t × Tells content place most (s.commands == 0) r × Fully content place most r × LostWhenSpent s.commands r };
 
     fn read(
         &mut self,
@@ -50,16 +52,7 @@ impl<'a> Source for Chip<'a> {
         place: u16,
         wanted: usize,
         buffer: &mut [u8],
-    ) -> Result<Answer, Fault>
-        ensures files { files_in self.new.image.row.now ≡ files_in self.old.image.row.now }
-        ensures lasts { (self.old.commands == 0) ≡ true → (self.new.commands == 0) ≡ true }
-        ensures reads { Reads (files_in self.old.image.row.now file) (self.old.commands == 0) (self.new.commands == 0) file place wanted buffer.old buffer.new result }
-        ensures steps { WellFormed file wanted buffer.old → (self.new.image ≡ self.old.image) × (self.new.span ≡ self.old.span) × (self.new.commands ≡ self.old.commands - 1) }
-        ensures outcomes { WellFormed file wanted buffer.old → (self.new.image ≡ self.old.image) × (self.new.span ≡ self.old.span) × (self.new.commands ≡ self.old.commands - 1) × Tells (files_in self.old.image.row.now file) place (min (max self.old.span 1) wanted) (self.old.commands == 0) result }
-        ensures still { (WellFormed file wanted buffer.old → ⊥) → self.new ≡ self.old }
-        ensures fully { Fully (files_in self.old.image.row.now file) place (min (max self.old.span 1) wanted) result }
-        ensures spent { LostWhenSpent self.old.commands result }
-    {
+    ) -> Result<Option<usize>, Fault> {
         if !well_formed(file, wanted, buffer) {
             return Err(Fault::Malformed);
         }
@@ -67,7 +60,7 @@ impl<'a> Source for Chip<'a> {
             return Err(Fault::Lost(Loss));
         }
         self.commands -= 1;
-        let most = (self.span.max(LEAST_SPAN) as usize).min(wanted);
+        let most = usize::from(self.span.max(LEAST_SPAN)).min(wanted);
         Ok(self.image.answer(file, place, most, buffer))
     }
 }

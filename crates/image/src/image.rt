@@ -1,41 +1,87 @@
 //! The image: a card's files in memory, as a row of fields: a file's number, its length in two bytes, and the file.
 //! The link to them is never lost.
-ghost use Rattle.std.specs.Prelude.{◌≡◌, ◌<◌, ◌≤◌, Bool, true, false, length};
+ghost use Rattle.std.specs.Prelude.{◌≡◌, ◌<◌, ◌≤◌, false, length};
 ghost use Rattle.std.specs.Option.{option_map};
-ghost use Rattle.source.specs.Reads.{WellFormed, Reads};
+ghost use Rattle.std.specs.Iterator.{at_most};
 ghost use Rattle.image.specs.Images.{files_in, files_short};
 ghost use Rattle.image.specs.Checks.{Starts, Checks, StandsFor};
 ghost use Rattle.image.specs.Counts.{Copies, Fully, AnswersFully, answer_of, Tells};
 ghost use Rattle.image.specs.Numbers.{of_image};
 
-use card::{EF_SOD, LONGEST};
-use source::{Answer, Fault, Source, well_formed};
+use card::{EF_SOD, LONGEST, Numbered};
+use source::{Fault, Source, well_formed};
+use std::error::Error;
+use std::fmt;
 
-/// The field at the start of a row, and the row behind it.
+/// How many bytes stand before a field's file: its number and its length.
+const HEADER: usize = 3;
+
+/// A field of a row.
 #[derive(Clone, Copy)]
-struct FirstField<'a> {
+struct StoredField<'a> {
     number: u8,
     content: &'a [u8],
-    rest: &'a [u8],
+}
+
+/// The fields of a row, up to the first that is cut off or too long.
+#[derive(Clone, Copy)]
+struct Fields<'a> {
+    row: &'a [u8],
+}
+
+impl<'a> Iterator for Fields<'a> {
+    type Item = StoredField<'a>;
+
+    ghost next_gives = { λ s result t. Starts s.row.now result t.row.now };
+
+    ghost remaining = { λ s. at_most (length s.row.now) };
+
+    fn next(&mut self) -> Option<StoredField<'a>> {
+        let [number, high, low, tail @ ..] = self.row else {
+            return None;
+        };
+        let size = usize::from(*high) * 256 + usize::from(*low);
+        if size > usize::from(LONGEST) {
+            return None;
+        }
+        let (content, rest) = tail.split_at_checked(size)?;
+        self.row = rest;
+        Some(StoredField {
+            number: *number,
+            content,
+        })
+    }
 }
 
 /// Why bytes are no image.
-#[derive(Clone, Copy, Debug)]
+#[derive(Clone, Copy, Debug, PartialEq, Eq)]
 pub enum ImageRefusal {
     /// The first field that breaks starts here.
     Malformed { position: usize },
 }
 
-impl ImageRefusal {
-    /// The refusal's number.
-    pub fn number(self) -> u8
-        ensures { result ≡ (of_image self).number }
-    {
+impl Numbered for ImageRefusal {
+    ghost refusal = { of_image };
+
+    fn number(self) -> u8 {
         match self {
-            ImageRefusal::Malformed { position: _ } => 8,
+            ImageRefusal::Malformed { .. } => 8,
         }
     }
 }
+
+impl fmt::Display for ImageRefusal {
+    fn fmt<W: fmt::Write>(&self, f: &mut fmt::Formatter<W>) -> fmt::Result {
+        let ImageRefusal::Malformed { position } = *self;
+        write!(
+            f,
+            "refusal {}, the field at {position} breaks",
+            self.number()
+        )
+    }
+}
+
+impl Error for ImageRefusal {}
 
 /// A card's files in memory.
 #[derive(Clone, Copy)]
@@ -43,98 +89,68 @@ pub struct Image<'a> {
     row: &'a [u8],
 }
 
+impl<'a> TryFrom<&'a [u8]> for Image<'a> {
+    type Error = ImageRefusal;
+
+    ghost try_from_gives = { λ bytes result. Checks bytes.now result };
+
+    fn try_from(bytes: &'a [u8]) -> Result<Image<'a>, ImageRefusal> {
+        let mut position = 0;
+        let mut lowest = 0;
+        for field in (Fields { row: bytes }) {
+            if field.number < lowest || field.number > EF_SOD {
+                return Err(ImageRefusal::Malformed { position });
+            }
+            lowest = field.number + 1;
+            position += HEADER + field.content.len();
+        }
+        if position < bytes.len() {
+            return Err(ImageRefusal::Malformed { position });
+        }
+        Ok(Image { row: bytes })
+    }
+}
+
 impl<'a> Image<'a> {
     /// The image that the bytes are, or where the first field that breaks starts.
     pub fn check(bytes: &'a [u8]) -> Result<Image<'a>, ImageRefusal>
         ensures { Checks bytes.now result }
     {
-        let mut rest = bytes;
-        let mut lowest = 0;
-        while let Some(field) = first_field(rest) {
-            let FirstField {
-                number,
-                content: _,
-                rest: next,
-            } = field;
-            if number < lowest || number > EF_SOD {
-                return Err(ImageRefusal::Malformed {
-                    position: bytes.len() - rest.len(),
-                });
-            }
-            lowest = number + 1;
-            rest = next;
-        }
-        if rest.len() > 0 {
-            return Err(ImageRefusal::Malformed {
-                position: bytes.len() - rest.len(),
-            });
-        }
-        Ok(Image { row: bytes })
+        Image::try_from(bytes)
     }
 
     /// The image over any bytes; it has no files where they are no image.
     pub fn over(bytes: &'a [u8]) -> Image<'a>
         ensures { StandsFor bytes.now (files_in result.row.now) }
     {
-        match Image::check(bytes) {
-            Ok(image) => image,
-            Err(_) => Image { row: &bytes[0..0] },
-        }
+        Image::check(bytes).unwrap_or(Image { row: &[] })
     }
 
     /// A file, if it is there.
     pub fn file(&self, file: u8) -> Option<&'a [u8]>
         ensures { option_map (λ x. x.now) result ≡ files_in self.now.row.now file }
     {
-        let mut rest = self.row;
-        while let Some(field) = first_field(rest) {
-            let FirstField {
-                number,
-                content,
-                rest: next,
-            } = field;
-            if number == file {
-                return Some(content);
-            }
-            rest = next;
-        }
-        None
+        Fields { row: self.row }
+            .find(|field| field.number == file)
+            .map(|field| field.content)
     }
 
     /// Answers a well-formed read with as many bytes as `most` and the file allow.
-    pub(crate) fn answer(&self, file: u8, place: u16, most: usize, buffer: &mut [u8]) -> Answer
+    pub(crate) fn answer(
+        &self,
+        file: u8,
+        place: u16,
+        most: usize,
+        buffer: &mut [u8],
+    ) -> Option<usize>
         requires some { 0 < most }
         requires room { most ≤ length buffer.old }
         ensures answers { AnswersFully (files_in self.now.row.now file) place most buffer.old buffer.new result }
         ensures told { result ≡ answer_of (files_in self.now.row.now file) place most }
     {
-        match self.file(file) {
-            None => Answer::Absent,
-            Some(bytes) => Answer::Bytes(copy_part(bytes, place as usize, most, buffer)),
-        }
+        let bytes = self.file(file)?;
+        Some(copy_part(bytes, usize::from(place), most, buffer))
     }
-}
-
-/// The field at the start of a row, where one stands whole and is not too long.
-fn first_field(row: &[u8]) -> Option<FirstField<'_>>
-    ensures { Starts row.now result }
-{
-    let [number, high, low, tail @ ..] = row else {
-        return None;
-    };
-    let size = u16::from(*high) * 256 + u16::from(*low);
-    if size > LONGEST {
-        return None;
-    }
-    if size as usize > tail.len() {
-        return None;
-    }
-    let (content, rest) = tail.split_at(size as usize);
-    Some(FirstField {
-        number: *number,
-        content,
-        rest,
-    })
 }
 
 /// Copies as many bytes from a place on as `most` and the file allow to the buffer's start, and says how many.
@@ -143,11 +159,11 @@ fn copy_part(bytes: &[u8], place: usize, most: usize, buffer: &mut [u8]) -> usiz
     requires room { most ≤ length buffer.old }
     ensures { Copies bytes.now place most result buffer.old buffer.new }
 {
-    if place >= bytes.len() {
+    let Some(rest) = bytes.get(place..) else {
         return 0;
-    }
-    let count = most.min(bytes.len() - place);
-    buffer[0..count].copy_from_slice(&bytes[place..place + count]);
+    };
+    let count = most.min(rest.len());
+    buffer[..count].copy_from_slice(&rest[..count]);
     count
 }
 
@@ -160,7 +176,7 @@ impl<'a> Source for Image<'a> {
 
     ghost steps = { λ s file place wanted t. t ≡ s };
 
-    ghost outcomes = { λ s file place wanted r t. (t ≡ s) × Tells (files_in s.row.now file) place wanted false r };
+    ghost outcomes = { λ s file place wanted r t. (t ≡ s) × Tells (files_in s.row.now file) place wanted false r × Fully (files_in s.row.now file) place wanted r };
 
     fn read(
         &mut self,
@@ -168,15 +184,7 @@ impl<'a> Source for Image<'a> {
         place: u16,
         wanted: usize,
         buffer: &mut [u8],
-    ) -> Result<Answer, Fault>
-        ensures files { files_in self.new.row.now ≡ files_in self.old.row.now }
-        ensures lasts { ◌≡◌ {A = Bool} false true → ◌≡◌ {A = Bool} false true }
-        ensures reads { Reads (files_in self.old.row.now file) false false file place wanted buffer.old buffer.new result }
-        ensures steps { WellFormed file wanted buffer.old → self.new ≡ self.old }
-        ensures outcomes { WellFormed file wanted buffer.old → (self.new ≡ self.old) × Tells (files_in self.old.row.now file) place wanted false result }
-        ensures still { (WellFormed file wanted buffer.old → ⊥) → self.new ≡ self.old }
-        ensures fully { Fully (files_in self.old.row.now file) place wanted result }
-    {
+    ) -> Result<Option<usize>, Fault> {
         if !well_formed(file, wanted, buffer) {
             return Err(Fault::Malformed);
         }

@@ -3,14 +3,13 @@
 
 mod report;
 
-use anyhow::anyhow;
 use card::{EF_COM, EF_SOD, LONGEST, Profile};
 use cases::{judge_common, judge_faces, judge_security, judge_structure, judge_zone, worked_rows};
 use changed::Changed;
 use image::{Chip, Image};
-use report::{print_common, print_faces, print_security, print_structure, print_zone};
+use report::print_file;
 use samples::{OLD_FACE_CARD, TD1_CARD, TD2_CARD, TD3_CARD};
-use source::{Answer, Source, read_whole};
+use source::{Source, read_whole};
 
 /// DG1 and DG2.
 const DG1: u8 = 1;
@@ -22,7 +21,7 @@ fn main(rt: HostRuntime) -> anyhow::Result<()> {
 }
 
 fn run(rt: &HostRuntime) -> anyhow::Result<()> {
-    let mut buffer = vec![in rt.alloc(); 0u8; LONGEST as usize]?;
+    let mut buffer = vec![in rt.alloc(); 0u8; usize::from(LONGEST)]?;
     let rows = worked_rows();
     println!(rt; "{rows} worked rows follow from the definitions.")?;
     judge_card(rt, 1, TD1_CARD, &mut buffer)?;
@@ -33,9 +32,7 @@ fn run(rt: &HostRuntime) -> anyhow::Result<()> {
 
 /// Judges every file of a card that declares DG1 and DG2, over a chip that answers a few bytes at a time.
 fn judge_card(rt: &HostRuntime, kind: u8, bytes: &[u8], buffer: &mut [u8]) -> anyhow::Result<()> {
-    let Ok(profile) = Profile::new(kind, 0x0003) else {
-        return Err(anyhow!("no such profile"));
-    };
+    let profile = Profile::new(kind, 0x0003)?;
     println!(rt; "A TD{kind} card that declares DG1 and DG2:")?;
     let mut card = Chip::new(Image::over(bytes), 7, 1000);
     for file in 0..=EF_SOD {
@@ -46,14 +43,11 @@ fn judge_card(rt: &HostRuntime, kind: u8, bytes: &[u8], buffer: &mut [u8]) -> an
 
 /// Judges one file of two damaged cards.
 fn judge_damaged(rt: &HostRuntime, buffer: &mut [u8]) -> anyhow::Result<()> {
-    let Ok(profile) = Profile::new(3, 0x0003) else {
-        return Err(anyhow!("no such profile"));
-    };
+    let profile = Profile::new(3, 0x0003)?;
     println!(rt; "The TD3 card with the outer length of DG1 one too large:")?;
     let mut card = Changed::over(Chip::new(Image::over(TD3_CARD), 7, 1000));
-    if card.set(DG1, 1, 0x5c).is_ok() {
-        judge_file(rt, &mut card, DG1, buffer, profile)?;
-    }
+    card.set(DG1, 1, 0x5c)?;
+    judge_file(rt, &mut card, DG1, buffer, profile)?;
     println!(rt; "The TD3 card with its face block under the tag 7F2E:")?;
     let mut card = Chip::new(Image::over(OLD_FACE_CARD), 255, 1000);
     judge_file(rt, &mut card, DG2, buffer, profile)
@@ -68,11 +62,10 @@ fn judge_file<S: Source>(
     profile: Profile,
 ) -> anyhow::Result<()> {
     match read_whole(source, file, buffer) {
-        Ok(Answer::Absent) => print_lines(rt, file, None, profile),
-        Ok(Answer::Bytes(count)) => print_lines(rt, file, buffer.get(0..count), profile),
+        Ok(None) => print_lines(rt, file, None, profile),
+        Ok(Some(count)) => print_lines(rt, file, buffer.get(..count), profile),
         Err(refusal) => {
-            let number = refusal.number();
-            println!(rt; "  file {file}: refusal {number}")?;
+            println!(rt; "  file {file}: {refusal}")?;
             Ok(())
         }
     }
@@ -87,13 +80,25 @@ fn print_lines(
 ) -> anyhow::Result<()> {
     print!(rt; "  file {file}:")?;
     match file {
-        EF_COM => print_common(rt, judge_common(content, profile))?,
-        DG1 => print_zone(rt, judge_zone(content, profile))?,
-        DG2 => print_faces(rt, judge_faces(content, profile))?,
-        EF_SOD => print_security(rt, judge_security(content, profile))?,
+        EF_COM => {
+            let common = judge_common(content, profile);
+            print_file(rt, common.structure, 4, &common.own.by_case())?;
+        }
+        DG1 => {
+            let zone = judge_zone(content, profile);
+            print_file(rt, zone.structure, 9, &zone.own.by_case())?;
+        }
+        DG2 => {
+            let faces = judge_faces(content, profile);
+            print_file(rt, faces.structure, 21, &faces.own.by_case())?;
+        }
+        EF_SOD => {
+            let security = judge_security(content, profile);
+            print_file(rt, security.structure, 24, &[security.own])?;
+        }
         _ => {
-            if let Some(lines) = judge_structure(file, content, profile) {
-                print_structure(rt, lines)?;
+            if let Some(structure) = judge_structure(file, content, profile) {
+                print_file(rt, structure, 4, &[])?;
             }
         }
     }

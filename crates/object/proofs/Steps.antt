@@ -1,6 +1,7 @@
 -- One object read, over the readers before and after it.
-use Rattle.std.proofs.Common.{◌≡◌, ℕ, ◌+◌, ◌-◌, ◌<◌, ◌≤◌, Bool, true, false, eqb, List, [], length, take, drop, MatchBool, sym, ap, ◌∙◌, arith, length-drop, true-eqb, false-eqb}
+use Rattle.std.proofs.Common.{◌≡◌, ℕ, ◌+◌, ◌-◌, ◌<◌, ◌≤◌, Bool, true, false, eqb, List, [], length, take, drop, Ok, Err, Result, MatchBool, MatchResult, sym, ap, ◌∙◌, arith, length-drop, true-eqb, false-eqb}
 use borrow.Author.Tests.{both_ways}
+use Rattle.card.specs.declared.line.Failure.{Failure}
 use Rattle.object.specs.declared.object.Object.{Object}
 use Rattle.object.specs.declared.reader.Reader.{Reader}
 use Rattle.object.specs.Objects.{nests}
@@ -24,12 +25,19 @@ step n {a = a} {o = o} t l h u =
 pub step_plain : (n : ℕ) {a b : Reader} {o : Object} → Taken a b o → is_nested_object o ≡ false → 0 < n → Step n a b
 step_plain n t k l = let s = sym t.kinds ∙ k in step n t l (λ q. elim (both_ways _ s q) [ ]) (tiled_plain n t.begins s l)
 
-pub step_nested : (n : ℕ) {a b : Reader} {o : Object} → Taken a b o → is_nested_object o ≡ true → 0 < n → Tiled (n - 1) (value o) → Step n a b
+step_nested : (n : ℕ) {a b : Reader} {o : Object} → Taken a b o → is_nested_object o ≡ true → 0 < n → Tiled (n - 1) (value o) → Step n a b
 step_nested n t k l h = let s = sym t.kinds ∙ k in step n t l (λ q. h) (tiled_nested n t.begins s l h)
 
-pub stops_nested : (n : ℕ) {a b : Reader} {o : Object} → Taken a b o → is_nested_object o ≡ true → 0 < n → (q : ℕ) → First (n - 1) (place o) (value o) q →
+stops_nested : (n : ℕ) {a b : Reader} {o : Object} → Taken a b o → is_nested_object o ≡ true → 0 < n → (q : ℕ) → First (n - 1) (place o) (value o) q →
     First n a.position (rest_of a) q
 stops_nested n {a = a} t k l q f = first_inside n a.position q t.begins l (sym t.kinds ∙ k) (rw t.at at f)
+
+-- a nested object, by how the objects in its value were read
+pub nested : (n : ℕ) {a b : Reader} {o : Object} (inside : Result (Unit {0}) Failure) → Taken a b o → is_nested_object o ≡ true → 0 < n
+    → MatchResult inside (λ _. Tiled (n - 1) (value o)) (λ failure. First (n - 1) (place o) (value o) failure.place)
+    → MatchResult inside (λ _. Step n a b) (λ failure. First n a.position (rest_of a) failure.place)
+nested n (Ok x) t k l h = step_nested n t k l h
+nested n (Err failure) t k l f = stops_nested n t k l failure.place f
 
 -- the range of a nested object's value, cut out of the bytes
 pub inner : {a b : Reader} {o : Object} (range : List ℕ) → Taken a b o → range ≡ take (place o + length (value o)) b.bytes.now → drop (place o) range ≡ value o

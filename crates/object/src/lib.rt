@@ -8,5 +8,5 @@ pub mod tiling;
 
 pub use header::read_length;
 pub use object::Object;
-pub use reader::Reader;
+pub use reader::{Reader, Value};
 pub use tiling::tile;

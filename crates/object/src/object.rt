@@ -1,6 +1,7 @@
 //! An object, plain or nested. Its value is a part of the file; the value's place in the file goes with it.
 ghost use Rattle.std.specs.Prelude.{◌≡◌};
 ghost use Rattle.object.specs.Objects.{nests};
+ghost use Rattle.object.specs.Readers.{tag, place, value};
 
 /// An object of a file.
 #[derive(Clone, Copy)]
@@ -17,6 +18,35 @@ pub enum Object<'a> {
         place: usize,
         value: &'a [u8],
     },
+}
+
+impl<'a> Object<'a> {
+    /// Its tag.
+    pub fn tag(self) -> u16
+        ensures { result ≡ tag self.entry }
+    {
+        match self {
+            Object::Plain { tag, .. } | Object::Nested { tag, .. } => tag,
+        }
+    }
+
+    /// The place of its value's first byte in the file.
+    pub fn place(self) -> usize
+        ensures { result ≡ place self.entry }
+    {
+        match self {
+            Object::Plain { place, .. } | Object::Nested { place, .. } => place,
+        }
+    }
+
+    /// Its value.
+    pub fn value(self) -> &'a [u8]
+        ensures { result.now ≡ value self.entry }
+    {
+        match self {
+            Object::Plain { value, .. } | Object::Nested { value, .. } => value,
+        }
+    }
 }
 
 /// Whether an object of this tag is nested: the bit 20 (hexadecimal) of its first byte.

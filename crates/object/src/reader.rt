@@ -1,12 +1,78 @@
-//! A reader over a file's bytes: a range of the file that ends with `bytes` is still to be read from `position` on.
-ghost use Rattle.std.specs.Prelude.{◌≤◌, length};
+//! A reader over a file's bytes: a range of the file that ends with `bytes` is still to be read from `position` on, one
+//! object at a time.
+ghost use Rattle.std.specs.Prelude.{◌≡◌, ◌+◌, ◌^◌, ◌<◌, ◌≤◌, [], length, MatchBool, MatchOption};
 
-pub mod reading;
+use crate::header::{Header, read_header};
+use crate::object::{Object, is_nested};
 
 /// A position in a file's bytes.
-#[derive(Drop)]
+#[derive(Clone, Copy)]
 pub struct Reader<'a> {
     pub bytes: &'a [u8],
     pub position: usize,
     ghost within: { position ≤ length bytes.now },
+}
+
+/// An object's value, and the place of its first byte in the file.
+#[derive(Clone, Copy)]
+pub struct Value<'a> {
+    pub bytes: &'a [u8],
+    pub place: usize,
+    ghost room: { place + length bytes.now < 2 ^ 64 },
+}
+
+impl<'a> Reader<'a> {
+    ghost use Rattle.object.specs.Readers.{rest_of, Taken, Stuck, Took, Missed};
+
+    /// A reader over all of the bytes, from their start.
+    pub fn new(bytes: &'a [u8]) -> Reader<'a>
+        ensures bytes { result.bytes.now ≡ bytes.now }
+        ensures position { result.position ≡ 0 }
+    {
+        Reader { bytes, position: 0 }
+    }
+
+    /// The next object, if its header can be read and it ends within the range; the position is then past it.
+    pub fn next(&mut self) -> Option<Object<'a>>
+        ensures { MatchOption result (Stuck self.old self.new) (λ o. Taken self.old self.new o) }
+    {
+        let start = self.position;
+        let (_, rest) = self.bytes.split_at(start);
+        let Header { tag, length, size } = read_header(rest)?;
+        if size + length > rest.len() {
+            return None;
+        }
+        let place = start + size;
+        let end = place + length;
+        let value = &self.bytes[place..end];
+        self.position = end;
+        if is_nested(tag) {
+            Some(Object::Nested { tag, place, value })
+        } else {
+            Some(Object::Plain { tag, place, value })
+        }
+    }
+
+    /// The value of the next object, if it has this tag; the position is then past it, and else where it was.
+    pub fn take(&mut self, tag: u16) -> Option<Value<'a>>
+        ensures { MatchOption result (Missed self.old self.new tag) (λ v. Took self.old self.new tag v.bytes.now × (v.place + length v.bytes.now ≡ self.new.position)) }
+    {
+        let start = self.position;
+        let object = self.next()?;
+        if object.tag() != tag {
+            self.position = start;
+            return None;
+        }
+        Some(Value {
+            bytes: object.value(),
+            place: object.place(),
+        })
+    }
+
+    /// Whether all of the range was read.
+    pub fn is_done(&self) -> bool
+        ensures { MatchBool result (rest_of self.now ≡ []) (0 < length (rest_of self.now)) }
+    {
+        self.position == self.bytes.len()
+    }
 }

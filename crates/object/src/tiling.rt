@@ -6,38 +6,33 @@ ghost use Rattle.object.specs.Readers.{rest_of, Step};
 
 use crate::object::Object;
 use crate::reader::Reader;
+use card::Failure;
 
 /// Whether objects tile what the reader has to read, on at most so many levels; else the smallest place at which an object is broken.
-pub fn tile(reader: Reader<'_>, levels: u8) -> Result<(), usize>
-    ensures { MatchResult result (λ _. TiledOnce levels (rest_of reader.entry)) (λ place. NowhereTiled levels reader.entry.position (rest_of reader.entry) place) }
+pub fn tile(reader: Reader<'_>, levels: u8) -> Result<(), Failure>
+    ensures { MatchResult result (λ _. TiledOnce levels (rest_of reader.entry)) (λ failure. NowhereTiled levels reader.entry.position (rest_of reader.entry) failure.place) }
 {
     read_objects(reader, levels)
 }
 
 /// Reads one object with all that is in it, on at most so many levels.
 #[cycle(read_object_read_objects)]
-fn read_object(reader: &mut Reader<'_>, levels: u8) -> Result<(), usize>
+fn read_object(reader: &mut Reader<'_>, levels: u8) -> Result<(), Failure>
     requires { reader.old.position < length reader.old.bytes.now }
-    ensures { MatchResult result (λ _. Step levels reader.old reader.new) (λ place. First levels reader.old.position (rest_of reader.old) place) }
+    ensures { MatchResult result (λ _. Step levels reader.old reader.new) (λ failure. First levels reader.old.position (rest_of reader.old) failure.place) }
 {
-    let start = reader.position;
+    let failure = Failure {
+        place: reader.position,
+    };
     if levels == 0 {
-        return Err(start);
+        return Err(failure);
     }
     let Some(object) = reader.next() else {
-        return Err(start);
+        return Err(failure);
     };
     match object {
-        Object::Plain {
-            tag: _,
-            place: _,
-            value: _,
-        } => Ok(()),
-        Object::Nested {
-            tag: _,
-            place,
-            value,
-        } => {
+        Object::Plain { .. } => Ok(()),
+        Object::Nested { place, value, .. } => {
             let (range, _) = reader.bytes.split_at(place + value.len());
             read_objects(
                 Reader {
@@ -52,8 +47,8 @@ fn read_object(reader: &mut Reader<'_>, levels: u8) -> Result<(), usize>
 
 /// Reads the objects of a range with all that is in them, on at most so many levels.
 #[cycle(read_object_read_objects)]
-fn read_objects(mut reader: Reader<'_>, levels: u8) -> Result<(), usize>
-    ensures { MatchResult result (λ _. Tiled levels (rest_of reader.entry)) (λ place. First levels reader.entry.position (rest_of reader.entry) place) }
+fn read_objects(mut reader: Reader<'_>, levels: u8) -> Result<(), Failure>
+    ensures { MatchResult result (λ _. Tiled levels (rest_of reader.entry)) (λ failure. First levels reader.entry.position (rest_of reader.entry) failure.place) }
 {
     while reader.position < reader.bytes.len() {
         read_object(&mut reader, levels)?;

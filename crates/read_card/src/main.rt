@@ -1,11 +1,12 @@
 //! Reads a sample card from its image and over a chip, and prints each step and what came out.
 #![tactic(auto)]
 
-use card::{EF_SOD, LONGEST, Profile};
+use card::{EF_COM, EF_SOD, LONGEST, Profile};
 use changed::Changed;
-use image::{Chip, Image, ImageRefusal};
+use image::{Chip, Image};
 use samples::TD3_CARD;
-use source::{Answer, Source, WholeRefusal, read_whole};
+use source::{WholeRefusal, read_whole};
+use std::fmt;
 
 /// How many bytes the sample chip answers at most.
 const SPAN: u8 = 7;
@@ -19,7 +20,7 @@ fn main(rt: HostRuntime) -> anyhow::Result<()> {
 
 fn run(rt: &HostRuntime) -> anyhow::Result<()> {
     let card: &[u8] = TD3_CARD;
-    let mut buffer = vec![in rt.alloc(); 0u8; LONGEST as usize]?;
+    let mut buffer = vec![in rt.alloc(); 0u8; usize::from(LONGEST)]?;
     make_profile(rt, 3, 0x0003)?;
     make_profile(rt, 4, 0x0003)?;
     make_profile(rt, 3, 0x0001)?;
@@ -38,15 +39,11 @@ fn make_profile(rt: &HostRuntime, kind: u8, declared: u16) -> anyhow::Result<()>
             print!(rt; " requires")?;
             for file in 0..=EF_SOD {
                 if profile.required(file) {
-                    let name = file_name(file);
-                    print!(rt; " {name}")?;
+                    print!(rt; " {}", Name { file })?;
                 }
             }
         }
-        Err(refusal) => {
-            let number = refusal.number();
-            print!(rt; " refusal {number}, there is no such profile")?;
-        }
+        Err(refusal) => print!(rt; " {refusal}")?,
     }
     println!(rt; ".")?;
     Ok(())
@@ -60,18 +57,12 @@ fn check_image(rt: &HostRuntime, bytes: &[u8]) -> anyhow::Result<()> {
         Ok(image) => {
             for file in 0..=EF_SOD {
                 if let Some(content) = image.file(file) {
-                    let name = file_name(file);
-                    let length = content.len();
-                    print!(rt; " {name} has {length};")?;
+                    print!(rt; " {} has {};", Name { file }, content.len())?;
                 }
             }
             println!(rt; " no other file is there.")?;
         }
-        Err(refusal) => {
-            let number = refusal.number();
-            let ImageRefusal::Malformed { position } = refusal;
-            println!(rt; " refusal {number}, the field at {position} breaks.")?;
-        }
+        Err(refusal) => println!(rt; " {refusal}.")?,
     }
     Ok(())
 }
@@ -84,8 +75,8 @@ fn read_over_chip(rt: &HostRuntime, buffer: &mut [u8]) -> anyhow::Result<()> {
     for file in 0..=EF_SOD {
         let outcome = read_whole(&mut chip, file, buffer);
         print_outcome(rt, file, outcome)?;
-        if let (Ok(Answer::Bytes(count)), Some(content)) = (outcome, image.file(file)) {
-            if count <= buffer.len() && &buffer[0..count] == content {
+        if let (Ok(Some(count)), Some(content)) = (outcome, image.file(file)) {
+            if buffer.get(..count) == Some(content) {
                 println!(rt; "    the same bytes as in the image")?;
             } else {
                 println!(rt; "    other bytes than in the image")?;
@@ -99,12 +90,10 @@ fn read_over_chip(rt: &HostRuntime, buffer: &mut [u8]) -> anyhow::Result<()> {
 fn lay_changes(rt: &HostRuntime, buffer: &mut [u8]) -> anyhow::Result<()> {
     let mut card = Changed::over(Chip::new(Image::over(TD3_CARD), SPAN, PLENTY));
     println!(rt; "Changed source over the chip:")?;
-    if card.set(1, 58, b'7').is_ok() {
-        println!(rt; "  set the byte at 58 of DG1 to 7")?;
-    }
-    if card.remove(2).is_ok() {
-        println!(rt; "  removed DG2")?;
-    }
+    card.set(1, 58, b'7')?;
+    println!(rt; "  set the byte at 58 of DG1 to 7")?;
+    card.remove(2)?;
+    println!(rt; "  removed DG2")?;
     let outcome = read_whole(&mut card, 1, buffer);
     print_outcome(rt, 1, outcome)?;
     if let Some(byte) = buffer.get(58) {
@@ -130,45 +119,29 @@ fn run_out(rt: &HostRuntime, buffer: &mut [u8]) -> anyhow::Result<()> {
 fn print_outcome(
     rt: &HostRuntime,
     file: u8,
-    outcome: Result<Answer, WholeRefusal>,
+    outcome: Result<Option<usize>, WholeRefusal>,
 ) -> anyhow::Result<()> {
-    let name = file_name(file);
+    let name = Name { file };
     match outcome {
-        Ok(Answer::Absent) => println!(rt; "  {name} is absent")?,
-        Ok(Answer::Bytes(count)) => println!(rt; "  {name} came whole, {count} bytes")?,
-        Err(refusal) => {
-            let number = refusal.number();
-            print!(rt; "  {name}: refusal {number}")?;
-            if let WholeRefusal::Lost { received, loss: _ } = refusal {
-                print!(rt; ", the link is lost after {received} bytes")?;
-            }
-            println!(rt; "")?;
-        }
+        Ok(None) => println!(rt; "  {name} is absent")?,
+        Ok(Some(count)) => println!(rt; "  {name} came whole, {count} bytes")?,
+        Err(refusal) => println!(rt; "  {name}: {refusal}")?,
     }
     Ok(())
 }
 
-/// A file's name.
-fn file_name(file: u8) -> &'static str {
-    match file {
-        0 => "EF.COM",
-        1 => "DG1",
-        2 => "DG2",
-        3 => "DG3",
-        4 => "DG4",
-        5 => "DG5",
-        6 => "DG6",
-        7 => "DG7",
-        8 => "DG8",
-        9 => "DG9",
-        10 => "DG10",
-        11 => "DG11",
-        12 => "DG12",
-        13 => "DG13",
-        14 => "DG14",
-        15 => "DG15",
-        16 => "DG16",
-        17 => "EF.SOD",
-        _ => "no file",
+/// A file, by its name.
+#[derive(Clone, Copy)]
+struct Name {
+    file: u8,
+}
+
+impl fmt::Display for Name {
+    fn fmt<W: fmt::Write>(&self, f: &mut fmt::Formatter<W>) -> fmt::Result {
+        match self.file {
+            EF_COM => write!(f, "EF.COM"),
+            EF_SOD => write!(f, "EF.SOD"),
+            group => write!(f, "DG{group}"),
+        }
     }
 }

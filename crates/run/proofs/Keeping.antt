@@ -12,7 +12,7 @@ use Rattle.source.specs.Whole.{Ready}
 use Rattle.source.specs.declared.whole.WholeRefusal.TheVariants.{NoFile, ShortBuffer, Lost}
 use Rattle.sheet.specs.Sheets.{Blank, Complete, Counts}
 use Rattle.sheet.specs.Tables.{line_in}
-use Rattle.sheet.specs.declared.table.Sheet.{Sheet}
+use Rattle.sheet.specs.declared.sheet.Sheet.{Sheet}
 use Rattle.sheet.specs.declared.tally.Tally.{Tally}
 use Rattle.sheet.proofs.Rows.{count_same}
 use Rattle.verdict.specs.Verdicts.{AreFileLines, HoldsVerdict}

@@ -1,23 +1,22 @@
 -- A file that was read whole: what stands in the buffer, and what is judged.
 use Rattle.std.proofs.Common.{◌≡◌, ℕ, Bool, false, List, length, take, drop, Some, None, Err, Option, sym, refl, ap, ◌∙◌}
 use Rattle.std.proofs.lemmas.List.{take_at}
+use Rattle.std.specs.Option.{option_map}
 use Rattle.card.specs.Cards.{content}
 use Rattle.source.specs.Reads.{laid}
 use Rattle.source.specs.Whole.{Holds, Wholly}
-use Rattle.source.specs.declared.read.Answer.{Answer}
-use Rattle.source.specs.declared.read.Answer.TheVariants.{Absent, Bytes}
 use Rattle.source.specs.declared.whole.WholeRefusal.{WholeRefusal}
 use Rattle.source.specs.declared.whole.WholeRefusal.TheVariants.{NoFile, ShortBuffer, Lost}
-use Rattle.sheet.specs.declared.table.Sheet.{Sheet}
-use Rattle.run.specs.Calls.{content_of_answer, Judges}
+use Rattle.sheet.specs.declared.sheet.Sheet.{Sheet}
+use Rattle.run.specs.Calls.{Judges}
 use Rattle.run.specs.declared.refusal.JudgeRefusal.TheVariants.{Unread}
 
-pub read_whole : (bytes : Option (List ℕ)) (before after : List ℕ) (answer : Answer) → Holds bytes before after answer
-    → (after ≡ laid (content bytes) before) × (content_of_answer answer after ≡ bytes)
-read_whole None before after Absent h = (h, refl)
-read_whole None before after (Bytes count) h = absurd h
-read_whole (Some bytes) before after Absent h = absurd h
-read_whole (Some bytes) before after (Bytes count) h =
+pub read_whole : (bytes : Option (List ℕ)) (before after : List ℕ) (count : Option ℕ) → Holds bytes before after count
+    → (after ≡ laid (content bytes) before) × (option_map (λ n. take n after) count ≡ bytes)
+read_whole None before after None h = (h, refl)
+read_whole None before after (Some count) h = absurd h
+read_whole (Some bytes) before after None h = absurd h
+read_whole (Some bytes) before after (Some count) h =
     (h.1, ap Some (ap (take count) h.1 ∙ take_at bytes (drop (length bytes) before) count (sym h.0)))
 
 -- a file that was not read whole: the judge is refused for it

@@ -1,15 +1,14 @@
 -- One more call at the end of a history.
-use Rattle.std.proofs.Common.{◌≡◌, ℕ, ◌+◌, ◌<◌, Bool, List, [], ◌∷◌, ◌++◌, length, get_or, take, drop, set, Result, sym, refl, ap, ◌∙◌, subst, arith, length-take, get_or-drop, drop-drop, drop-set-lt}
+use Rattle.std.proofs.Common.{◌≡◌, ℕ, ◌+◌, ◌<◌, Bool, List, [], ◌∷◌, ◌++◌, length, get_or, take, drop, set, Option, Result, sym, refl, ap, ◌∙◌, subst, arith, length-take, get_or-drop, drop-drop, drop-set-lt}
 use Rattle.std.proofs.lemmas.List.{take_more, take_more_set}
 use Rattle.card.specs.Cards.{Files}
 use Rattle.card.specs.declared.profile.Profile.{Profile}
-use Rattle.source.specs.declared.read.Answer.{Answer}
 use Rattle.source.specs.declared.read.Fault.{Fault}
 use Rattle.run.specs.Histories.{Moment, Event, Moves, Leads, Handles, Runs}
 use Rattle.run.specs.Steps.{event, history, SameCall, SameCalls}
 use Rattle.run.specs.declared.promise.Step.{Step}
 
-module _ {S : Type 0} (lost : S → Bool) (outcomes : S → ℕ → ℕ → ℕ → Result Answer Fault → S → Type 0) (files : Files) (profile : Profile) where
+module _ {S : Type 0} (lost : S → Bool) (outcomes : S → ℕ → ℕ → ℕ → Result (Option ℕ) Fault → S → Type 0) (files : Files) (profile : Profile) where
   runs_more : (m n n' : Moment) (s t u : S) (events : List Event) (e : Event) → Runs lost outcomes files profile m s events n t → Moves files profile n e n' → Handles outcomes n e t u
       → n'.lost ≡ lost u → Runs lost outcomes files profile m s (events ++ e ∷ []) n' u
   runs_more m n n' s t u [] e r v h l =
@@ -60,7 +59,7 @@ module _ (xs ys : List Step) (i : ℕ) (x y : Step) (h : i < length xs) (len : l
   history_turn : history (take (i + 1) xs) (take (i + 1) (set ys i y)) ≡ history (take i xs) (take i ys) ++ event x y ∷ []
   history_turn = ap (λ z. history z (take (i + 1) (set ys i y))) before ∙ ap (λ z. history (take i xs ++ x ∷ []) z) after ∙ history_more (take i xs) (take i ys) x y level
 
-  pub runs_turn : {S : Type 0} (lost : S → Bool) (outcomes : S → ℕ → ℕ → ℕ → Result Answer Fault → S → Type 0) (files : Files) (profile : Profile) (m n n' : Moment) (s t u : S)
+  pub runs_turn : {S : Type 0} (lost : S → Bool) (outcomes : S → ℕ → ℕ → ℕ → Result (Option ℕ) Fault → S → Type 0) (files : Files) (profile : Profile) (m n n' : Moment) (s t u : S)
       → Runs lost outcomes files profile m s (history (take i xs) (take i ys)) n t → Moves files profile n (event x y) n' → Handles outcomes n (event x y) t u → n'.lost ≡ lost u
       → Runs lost outcomes files profile m s (history (take (i + 1) xs) (take (i + 1) (set ys i y))) n' u
   runs_turn lost outcomes files profile m n n' s t u r v k l =

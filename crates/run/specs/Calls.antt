@@ -1,5 +1,5 @@
 -- What judge, ask and close do to a run.
-use Rattle.std.specs.Prelude.{◌≡◌, ℕ, ◌≤◌, Bool, true, false, cond, ◌||◌, List, length, take, Some, None, Ok, Err, Option, Result, ◌==◌}
+use Rattle.std.specs.Prelude.{◌≡◌, ℕ, ◌≤◌, Bool, true, false, cond, ◌||◌, List, length, take, Ok, Err, Option, Result, ◌==◌}
 use Rattle.card.specs.Cards.{content}
 use Rattle.card.specs.Refusals.{Unless, Under, no_other, value}
 use Rattle.card.specs.Sets.{has}
@@ -8,13 +8,11 @@ use Rattle.card.specs.declared.line.Line.{Line}
 use Rattle.source.specs.Reads.{laid}
 use Rattle.source.specs.Whole.{Ready, Received}
 use Rattle.source.specs.Outcomes.{ReadsWhole}
-use Rattle.source.specs.declared.read.Answer.{Answer}
 use Rattle.source.specs.declared.read.Fault.{Fault}
 use Rattle.source.specs.declared.whole.WholeRefusal.{WholeRefusal}
-use Rattle.source.specs.declared.read.Answer.TheVariants.{Absent, Bytes}
 use Rattle.sheet.specs.Sheets.{Complete, LowestMissing, Counts}
 use Rattle.sheet.specs.Tables.{line_in}
-use Rattle.sheet.specs.declared.table.Sheet.{Sheet}
+use Rattle.sheet.specs.declared.sheet.Sheet.{Sheet}
 use Rattle.verdict.specs.Verdicts.{Lines, AreFileLines}
 use Rattle.run.specs.Numbers.{of_judge, of_ask, of_close}
 use Rattle.run.specs.declared.refusal.AskRefusal.{AskRefusal}
@@ -22,16 +20,6 @@ use Rattle.run.specs.declared.refusal.CloseRefusal.{CloseRefusal}
 use Rattle.run.specs.declared.refusal.JudgeRefusal.{JudgeRefusal}
 use Rattle.run.specs.declared.refusal.JudgeRefusal.TheVariants.{Closed, Unread}
 use Rattle.run.specs.declared.run.Summary.{Summary}
-
--- the bytes that an answer counts lie in the buffer
-abbrev pub Inside : Answer → List ℕ → Type 0
-Inside Absent buffer = Unit {0}
-Inside (Bytes count) buffer = count ≤ length buffer
-
--- the content of a file that was read whole to the buffer's start
-abbrev pub content_of_answer : Answer → List ℕ → Option (List ℕ)
-content_of_answer Absent buffer = None
-content_of_answer (Bytes count) buffer = Some (take count buffer)
 
 -- the lines of one file are those that the cases give for its content, and the file counts as judged; all else is as it was
 pub record Filled (kind declared given : ℕ) (bytes : Option (List ℕ)) (sheet sheet' : Sheet) : Type 0 where
@@ -56,7 +44,7 @@ Judges kind declared bytes closed lost lost' file before after sheet sheet' (Ok 
     (closed ≡ false) × Ready file before × (lost ≡ false) × (after ≡ laid (content bytes) before) × Filled kind declared file bytes sheet sheet'
 
 -- what a judge past 5 answers comes of reading the file whole
-abbrev pub ComesOf : Result Answer WholeRefusal → Result (Unit {0}) JudgeRefusal → Type 0
+abbrev pub ComesOf : Result (Option ℕ) WholeRefusal → Result (Unit {0}) JudgeRefusal → Type 0
 ComesOf (Ok whole) (Ok done) = Unit {0}
 ComesOf (Ok whole) (Err refusal) = ⊥
 ComesOf (Err refusal) (Ok done) = ⊥
@@ -65,8 +53,8 @@ ComesOf (Err refusal) (Err (Unread given)) = given ≡ refusal
 
 -- The reads of a judge, from one state of the source to another: it reads the file whole, once, and answers what comes of
 -- it. So it answers 6 exactly if one of its reads does, with the bytes of the reads before.
-pub record JudgeReads {S : Type 0} (outcomes : S → ℕ → ℕ → ℕ → Result Answer Fault → S → Type 0) (file : ℕ) (s : S) (answer : Result (Unit {0}) JudgeRefusal) (t : S) : Type 0 where
-  pub outcome : Result Answer WholeRefusal
+pub record JudgeReads {S : Type 0} (outcomes : S → ℕ → ℕ → ℕ → Result (Option ℕ) Fault → S → Type 0) (file : ℕ) (s : S) (answer : Result (Unit {0}) JudgeRefusal) (t : S) : Type 0 where
+  pub outcome : Result (Option ℕ) WholeRefusal
   pub reads : ReadsWhole outcomes file 0 s outcome t
   pub comes : ComesOf outcome answer
 

@@ -8,7 +8,6 @@ use Rattle.card.specs.declared.line.Line.TheVariants.{Open}
 use Rattle.card.specs.declared.profile.Profile.{Profile}
 use Rattle.source.specs.Reads.{laid}
 use Rattle.source.specs.Whole.{Ready}
-use Rattle.source.specs.declared.read.Answer.{Answer}
 use Rattle.source.specs.declared.read.Fault.{Fault}
 use Rattle.sheet.specs.Sheets.{Counts}
 use Rattle.sheet.specs.declared.tally.Tally.{Tally}
@@ -102,7 +101,7 @@ Leads files profile m (event ∷ events) m' = (next : Moment) × (Moves files pr
 
 -- What a call makes of the source: a judge that 5, 2 and 3 do not refuse reads its file whole and answers what comes of
 -- it, and nothing else touches the source.
-abbrev pub Handles : {S : Type 0} → (S → ℕ → ℕ → ℕ → Result Answer Fault → S → Type 0) → Moment → Event → S → S → Type 0
+abbrev pub Handles : {S : Type 0} → (S → ℕ → ℕ → ℕ → Result (Option ℕ) Fault → S → Type 0) → Moment → Event → S → S → Type 0
 Handles outcomes m (judging file before after None) s t = ⊥
 Handles outcomes m (judging file before after (Some answer)) s t =
     (m.closed ≡ false → Ready file before → JudgeReads outcomes file s answer t) × ((m.closed ≡ false → Ready file before → ⊥) → t ≡ s)
@@ -110,13 +109,13 @@ Handles outcomes m (asking case file answer) s t = t ≡ s
 Handles outcomes m (closing answer) s t = t ≡ s
 
 -- The same over a source that nothing else handles: each moment's link is that of the source at this moment.
-abbrev pub Runs : {S : Type 0} → (S → Bool) → (S → ℕ → ℕ → ℕ → Result Answer Fault → S → Type 0) → Files → Profile → Moment → S → List Event → Moment → S → Type 0
+abbrev pub Runs : {S : Type 0} → (S → Bool) → (S → ℕ → ℕ → ℕ → Result (Option ℕ) Fault → S → Type 0) → Files → Profile → Moment → S → List Event → Moment → S → Type 0
 Runs lost outcomes files profile m s [] m' t = (m' ≡ m) × (t ≡ s)
 Runs {S} lost outcomes files profile m s (event ∷ events) m' t = (next : Moment) × ((u : S)
     × (Moves files profile m event next × Handles outcomes m event s u × (next.lost ≡ lost u) × Runs lost outcomes files profile next u events m' t))
 
 -- A lawful history of a new run over a source, from the source as it was to the source that is handed back.
-pub record LawfulRun {S : Type 0} (lost : S → Bool) (outcomes : S → ℕ → ℕ → ℕ → Result Answer Fault → S → Type 0) (files : Files) (profile : Profile)
+pub record LawfulRun {S : Type 0} (lost : S → Bool) (outcomes : S → ℕ → ℕ → ℕ → Result (Option ℕ) Fault → S → Type 0) (files : Files) (profile : Profile)
     (source : S) (events : List Event) (source' : S) : Type 0 where
   pub last : Moment
   pub runs : Runs lost outcomes files profile (new_run (lost source)) source events last source'

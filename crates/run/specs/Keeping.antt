@@ -6,7 +6,7 @@ use Rattle.card.specs.Sheets.{HasLine}
 use Rattle.card.specs.declared.line.Line.TheVariants.{Open}
 use Rattle.card.specs.declared.profile.Profile.{Profile}
 use Rattle.sheet.specs.Tables.{line_in}
-use Rattle.sheet.specs.declared.table.Sheet.{Sheet}
+use Rattle.sheet.specs.declared.sheet.Sheet.{Sheet}
 use Rattle.verdict.specs.Verdicts.{HoldsVerdict}
 use Rattle.run.specs.Histories.{Moment}
 

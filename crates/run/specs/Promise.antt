@@ -1,8 +1,7 @@
 -- The whole promise of a run.
-use Rattle.std.specs.Prelude.{◌≡◌, ℕ, Bool, true, List, Result, ◌≢◌}
+use Rattle.std.specs.Prelude.{◌≡◌, ℕ, Bool, true, List, Option, Result, ◌≢◌}
 use Rattle.card.specs.Cards.{Files}
 use Rattle.card.specs.declared.profile.Profile.{Profile}
-use Rattle.source.specs.declared.read.Answer.{Answer}
 use Rattle.source.specs.declared.read.Fault.{Fault}
 use Rattle.record.specs.CardLaws.{CardChanged}
 use Rattle.record.specs.Laws.{Iff}
@@ -28,7 +27,7 @@ pub record CloseMeans (files : Files) (profile : Profile) (summary : Summary) : 
 
 -- What a list of calls on a new run over a source and a profile is promised. The source is told by when its link is lost
 -- and what its reads do; there are the source's files, the source before and after, and the steps before and after.
-pub record Promise {S : Type 0} (lost : S → Bool) (outcomes : S → ℕ → ℕ → ℕ → Result Answer Fault → S → Type 0) (files : Files) (profile : Profile)
+pub record Promise {S : Type 0} (lost : S → Bool) (outcomes : S → ℕ → ℕ → ℕ → Result (Option ℕ) Fault → S → Type 0) (files : Files) (profile : Profile)
     (source source' : S) (before after : List Step) : Type 0 where
   -- the steps are the same calls as before, with their answers and buffers
   pub same_calls : SameCalls before after

@@ -43,6 +43,7 @@ pub fn perform<S: Source>(source: S, profile: Profile, steps: &mut [Step]) -> S
     run.into_source()
 }
 
+// `Kept` stands in clauses and not in the type: a ghost field holds a proposition, and the lines that `Kept` tells of are data.
 /// Makes one call.
 fn make<S: Source>(run: &mut Run<S>, step: &mut Step)
     requires { Kept (S.files run.old.source) run.old.profile run.old.sheet }

@@ -3,10 +3,13 @@ ghost use Rattle.std.specs.Prelude.{◌≡◌};
 ghost use Rattle.run.specs.Numbers.{of_judge, of_ask, of_close};
 ghost use Rattle.run.specs.declared.refusal.JudgeRefusal.TheVariants.{Unread};
 
+use card::Numbered;
 use source::WholeRefusal;
+use std::error::Error;
+use std::fmt;
 
 /// Why a judge is refused.
-#[derive(Clone, Copy, Debug)]
+#[derive(Clone, Copy, Debug, PartialEq, Eq)]
 pub enum JudgeRefusal {
     /// A close was accepted.
     Closed,
@@ -22,11 +25,10 @@ impl From<WholeRefusal> for JudgeRefusal {
     }
 }
 
-impl JudgeRefusal {
-    /// The refusal's number.
-    pub fn number(self) -> u8
-        ensures { result ≡ (of_judge self).number }
-    {
+impl Numbered for JudgeRefusal {
+    ghost refusal = { of_judge };
+
+    fn number(self) -> u8 {
         match self {
             JudgeRefusal::Closed => 5,
             JudgeRefusal::Unread(refusal) => refusal.number(),
@@ -34,26 +36,44 @@ impl JudgeRefusal {
     }
 }
 
+impl fmt::Display for JudgeRefusal {
+    fn fmt<W: fmt::Write>(&self, f: &mut fmt::Formatter<W>) -> fmt::Result {
+        match self {
+            JudgeRefusal::Closed => write!(f, "refusal {}", self.number()),
+            JudgeRefusal::Unread(refusal) => write!(f, "{refusal}"),
+        }
+    }
+}
+
+impl Error for JudgeRefusal {}
+
 /// Why an ask is refused.
-#[derive(Clone, Copy, Debug)]
+#[derive(Clone, Copy, Debug, PartialEq, Eq)]
 pub enum AskRefusal {
     /// There is no line of this case for this file.
     NoLine,
 }
 
-impl AskRefusal {
-    /// The refusal's number.
-    pub fn number(self) -> u8
-        ensures { result ≡ (of_ask self).number }
-    {
+impl Numbered for AskRefusal {
+    ghost refusal = { of_ask };
+
+    fn number(self) -> u8 {
         match self {
             AskRefusal::NoLine => 2,
         }
     }
 }
 
+impl fmt::Display for AskRefusal {
+    fn fmt<W: fmt::Write>(&self, f: &mut fmt::Formatter<W>) -> fmt::Result {
+        write!(f, "refusal {}", self.number())
+    }
+}
+
+impl Error for AskRefusal {}
+
 /// Why a close is refused.
-#[derive(Clone, Copy, Debug)]
+#[derive(Clone, Copy, Debug, PartialEq, Eq)]
 pub enum CloseRefusal {
     /// A close was accepted.
     Closed,
@@ -61,14 +81,25 @@ pub enum CloseRefusal {
     Unjudged { file: u8 },
 }
 
-impl CloseRefusal {
-    /// The refusal's number.
-    pub fn number(self) -> u8
-        ensures { result ≡ (of_close self).number }
-    {
+impl Numbered for CloseRefusal {
+    ghost refusal = { of_close };
+
+    fn number(self) -> u8 {
         match self {
             CloseRefusal::Closed => 5,
-            CloseRefusal::Unjudged { file: _ } => 4,
+            CloseRefusal::Unjudged { .. } => 4,
         }
     }
 }
+
+impl fmt::Display for CloseRefusal {
+    fn fmt<W: fmt::Write>(&self, f: &mut fmt::Formatter<W>) -> fmt::Result {
+        write!(f, "refusal {}", self.number())?;
+        match *self {
+            CloseRefusal::Unjudged { file } => write!(f, ", file {file} is not judged"),
+            CloseRefusal::Closed => Ok(()),
+        }
+    }
+}
+
+impl Error for CloseRefusal {}

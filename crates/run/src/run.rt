@@ -2,24 +2,31 @@
 ghost use Rattle.std.specs.Prelude.{◌≡◌, true, false};
 ghost use Rattle.sheet.specs.Sheets.{Blank};
 ghost use Rattle.source.specs.Whole.{Ready};
-ghost use Rattle.std.specs.Option.{option_map};
 ghost use Rattle.run.specs.Histories.{Judging, Asking, Closing};
 ghost use Rattle.run.specs.Keeping.{moment_of, Kept};
-ghost use Rattle.run.specs.Calls.{Judges, JudgeReads, Asks, Closes, Inside, content_of_answer};
+ghost use Rattle.run.specs.Calls.{Judges, JudgeReads, Asks, Closes};
 
 use crate::refusal::{AskRefusal, CloseRefusal, JudgeRefusal};
 use card::{Line, Profile};
 use sheet::{Sheet, Tally};
-use source::{Answer, Source, read_whole};
+use source::{Source, read_whole};
+use std::fmt;
 use verdict::file_lines;
 
 /// What an accepted close says.
-#[derive(Clone, Copy, Debug)]
+#[derive(Clone, Copy, Debug, PartialEq, Eq)]
 pub struct Summary {
     /// No line fails.
     pub clean: bool,
     /// How many lines there are of each kind.
     pub tally: Tally,
+}
+
+impl fmt::Display for Summary {
+    fn fmt<W: fmt::Write>(&self, f: &mut fmt::Formatter<W>) -> fmt::Result {
+        let word = if self.clean { "clean" } else { "not clean" };
+        write!(f, "{word}; {}", self.tally)
+    }
 }
 
 /// A run over one source and one profile: the sheet, and whether a close was accepted.
@@ -59,8 +66,9 @@ impl<S: Source> Run<S> {
         if self.closed {
             return Err(JudgeRefusal::Closed);
         }
-        let answer = read_whole(&mut self.source, file, buffer)?;
-        let Some(lines) = file_lines(file, content_in(answer, buffer), self.profile) else {
+        let count = read_whole(&mut self.source, file, buffer)?;
+        let content = count.map(|count| &buffer[..count]);
+        let Some(lines) = file_lines(file, content, self.profile) else {
             unreachable()
         };
         self.sheet.write(file, &lines);
@@ -72,10 +80,7 @@ impl<S: Source> Run<S> {
         ensures asks { Asks self.now.sheet case file result }
         ensures lawful { Kept (S.files self.now.source) self.now.profile self.now.sheet → Asking (S.files self.now.source) self.now.profile (moment_of self.now.sheet self.now.closed (S.lost self.now.source)) case file result }
     {
-        match self.sheet.line(case, file) {
-            Some(line) => Ok(line),
-            None => Err(AskRefusal::NoLine),
-        }
+        self.sheet.line(case, file).ok_or(AskRefusal::NoLine)
     }
 
     /// Closes the run once every file was judged.
@@ -102,23 +107,7 @@ impl<S: Source> Run<S> {
     pub fn into_source(self) -> S
         ensures { result ≡ self.source }
     {
-        let Run {
-            source,
-            profile: _,
-            sheet: _,
-            closed: _,
-        } = self;
+        let Run { source, .. } = self;
         source
-    }
-}
-
-/// The content of a file that was read whole to the buffer's start.
-fn content_in<'a>(answer: Answer, buffer: &'a [u8]) -> Option<&'a [u8]>
-    requires { Inside answer buffer.now }
-    ensures { option_map (λ x. x.now) result ≡ content_of_answer answer buffer.now }
-{
-    match answer {
-        Answer::Absent => None,
-        Answer::Bytes(count) => Some(&buffer[0..count]),
     }
 }

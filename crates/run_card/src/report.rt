@@ -1,8 +1,8 @@
 //! Prints what calls answered.
-use card::{EF_SOD, Line};
+use card::EF_SOD;
 use image::Image;
-use run::{AskRefusal, CloseRefusal, JudgeRefusal, Step, Summary};
-use source::WholeRefusal;
+use run::Step;
+use std::fmt;
 
 /// The bytes of each file that is there, in hexadecimal.
 pub fn print_bytes(rt: &HostRuntime, image: Image) -> anyhow::Result<()> {
@@ -29,18 +29,14 @@ pub fn print_steps(rt: &HostRuntime, steps: &[Step]) -> anyhow::Result<()> {
 /// What each call but the judges did.
 pub fn print_closes(rt: &HostRuntime, steps: &[Step]) -> anyhow::Result<()> {
     for step in steps {
-        match step {
-            Step::Judge {
-                file: _,
-                buffer: _,
-                answer: _,
-            } => {}
-            _ => print_step(rt, step)?,
+        if !matches!(step, Step::Judge { .. }) {
+            print_step(rt, step)?;
         }
     }
     Ok(())
 }
 
+/// What a call did.
 fn print_step(rt: &HostRuntime, step: &Step) -> anyhow::Result<()> {
     match step {
         Step::Judge {
@@ -50,70 +46,27 @@ fn print_step(rt: &HostRuntime, step: &Step) -> anyhow::Result<()> {
         } => {
             let size = buffer.len();
             print!(rt; "  judge file {file} into {size} bytes: ")?;
-            print_judge(rt, *answer)
+            print_answer(rt, answer.map(|judged| judged.map(|()| "done")))
         }
         Step::Ask { case, file, answer } => {
             print!(rt; "  ask case {case} of file {file}: ")?;
-            print_line(rt, *answer)
+            print_answer(rt, *answer)
         }
         Step::Close { answer } => {
             print!(rt; "  close: ")?;
-            print_summary(rt, *answer)
+            print_answer(rt, *answer)
         }
     }
 }
 
-fn print_judge(rt: &HostRuntime, answer: Option<Result<(), JudgeRefusal>>) -> anyhow::Result<()> {
-    match answer {
-        Some(Ok(())) => println!(rt; "done")?,
-        Some(Err(refusal)) => {
-            let number = refusal.number();
-            print!(rt; "refusal {number}")?;
-            if let JudgeRefusal::Unread(WholeRefusal::Lost { received, loss: _ }) = refusal {
-                print!(rt; ", the link is lost after {received} bytes")?;
-            }
-            println!(rt; "")?;
-        }
-        None => println!(rt; "not made")?,
-    }
-    Ok(())
-}
-
-fn print_line(rt: &HostRuntime, answer: Option<Result<Line, AskRefusal>>) -> anyhow::Result<()> {
-    match answer {
-        Some(Ok(line)) => println!(rt; "{line}")?,
-        Some(Err(refusal)) => {
-            let number = refusal.number();
-            println!(rt; "refusal {number}")?;
-        }
-        None => println!(rt; "not made")?,
-    }
-    Ok(())
-}
-
-fn print_summary(
+/// An answer, a refusal, or that the call was not made.
+fn print_answer<T: fmt::Display + Drop, R: fmt::Display + Drop>(
     rt: &HostRuntime,
-    answer: Option<Result<Summary, CloseRefusal>>,
+    answer: Option<Result<T, R>>,
 ) -> anyhow::Result<()> {
     match answer {
-        Some(Ok(Summary { clean, tally })) => {
-            let word = if clean { "clean" } else { "not clean" };
-            let pass = tally.pass;
-            let fail = tally.fail;
-            let unused = tally.not_applicable;
-            let blocked = tally.blocked;
-            println!(rt;
-                "{word}; {pass} pass, {fail} fail, {unused} not applicable, {blocked} blocked"
-            )?;
-        }
-        Some(Err(refusal)) => {
-            let number = refusal.number();
-            print!(rt; "refusal {number}")?;
-            if let CloseRefusal::Unjudged { file } = refusal {
-                print!(rt; ", file {file} is not judged")?;
-            }
-            println!(rt; "")?;
-        }
+        Some(Ok(value)) => println!(rt; "{value}")?,
+        Some(Err(refusal)) => println!(rt; "{refusal}")?,
         None => println!(rt; "not made")?,
     }
     Ok(())

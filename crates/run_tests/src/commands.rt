@@ -1,5 +1,5 @@
 //! How many commands of a chip a judge uses.
-use card::{LONGEST, Profile};
+use card::{LONGEST, Numbered, Profile};
 use image::{Chip, Image};
 use run::{JudgeRefusal, Run};
 use std::process::Abort;
@@ -12,9 +12,7 @@ fn judge_twice(
     commands: u32,
     buffer: &mut [u8],
 ) -> Result<(Result<(), JudgeRefusal>, Result<(), JudgeRefusal>), Fail> {
-    let Ok(profile) = Profile::new(3, 0x1003) else {
-        return Err(Fail::new("no such profile"));
-    };
+    let profile = Profile::new(3, 0x1003)?;
     let mut run = Run::open(Chip::new(Image::over(image), span, commands), profile);
     let first = run.judge(13, buffer);
     let second = run.judge(13, buffer);
@@ -23,10 +21,7 @@ fn judge_twice(
 
 /// Whether the link was lost.
 fn is_lost(answer: Result<(), JudgeRefusal>) -> bool {
-    match answer {
-        Ok(()) => false,
-        Err(refusal) => refusal.number() == 6,
-    }
+    answer.is_err_and(|refusal| refusal.number() == 6)
 }
 
 /// A judge of file 13 uses exactly so many commands.
@@ -61,7 +56,7 @@ fn image_of(heap: std::alloc::Global, size: u16) -> Result<Vec<u8>, Fail> {
 #[test]
 fn commands_of_a_judge(rt: HostRuntime) -> Result<(), Fail> {
     let heap = rt.alloc();
-    let mut buffer = vec![in heap; 0u8; LONGEST as usize]?;
+    let mut buffer = vec![in heap; 0u8; usize::from(LONGEST)]?;
     uses(&rt, &image_of(heap, LONGEST)?, 255, 129, &mut buffer)?;
     let file = image_of(heap, 300)?;
     uses(&rt, &file, 255, 3, &mut buffer)?;

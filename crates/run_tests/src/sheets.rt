@@ -18,10 +18,7 @@ fn judge_all<S: Source>(run: &mut Run<S>, buffer: &mut [u8]) -> Result<(), Fail>
 
 /// The profile of kind 3 that declares DG1 and DG2.
 fn profile() -> Result<Profile, Fail> {
-    match Profile::new(3, 0x0003) {
-        Ok(profile) => Ok(profile),
-        Err(_) => Err(Fail::new("no such profile")),
-    }
+    Ok(Profile::new(3, 0x0003)?)
 }
 
 /// Both runs have the same lines.
@@ -44,7 +41,7 @@ fn same_lines<S: Source, T: Source>(
 
 #[test]
 fn same_sheet_at_every_span(rt: HostRuntime) -> Result<(), Fail> {
-    let mut buffer = vec![in rt.alloc(); 0u8; LONGEST as usize]?;
+    let mut buffer = vec![in rt.alloc(); 0u8; usize::from(LONGEST)]?;
     let mut whole = Run::open(Image::over(TD3_CARD), profile()?);
     judge_all(&mut whole, &mut buffer)?;
     for span in 0..=255u8 {
@@ -57,7 +54,7 @@ fn same_sheet_at_every_span(rt: HostRuntime) -> Result<(), Fail> {
 
 #[test]
 fn same_sheet_over_a_pile(rt: HostRuntime) -> Result<(), Fail> {
-    let mut buffer = vec![in rt.alloc(); 0u8; LONGEST as usize]?;
+    let mut buffer = vec![in rt.alloc(); 0u8; usize::from(LONGEST)]?;
     let mut whole = Run::open(Image::over(TD3_CARD), profile()?);
     judge_all(&mut whole, &mut buffer)?;
     let mut low = Changed::over(Chip::new(Image::over(TD3_CARD), 3, 1000));

@@ -1,5 +1,6 @@
 -- Setting the lines of a file one after the other.
-use Rattle.std.proofs.Common.{◌≡◌, ℕ, ◌+◌, ◌-◌, ◌<◌, true, false, cond, ◌&&◌, eqb, ltb, List, length, get_or, set, sym, ap, ◌∙◌, subst, ⊎_elim, arith, get_or-set_other, get_or-set_same, rules}
+use Rattle.std.proofs.Common.{◌≡◌, ℕ, zero, suc, ◌+◌, ◌-◌, ◌<◌, true, false, cond, ◌&&◌, eqb, ltb, List, [], ◌∷◌, length, drop, get_or, set, sym, ap, ◌∙◌, subst, ⊎_elim, arith, get_or-set_other, get_or-set_same, rules}
+use Rattle.std.proofs.Math.Seq.{drop-nil}
 use Rattle.std.proofs.lemmas.Bool.{cases_eq}
 use Rattle.std.proofs.lemmas.Bool.Decides.{nat_tests}
 use Rattle.card.specs.Sheets.{HasLine}
@@ -46,6 +47,12 @@ pub put_none : (case file : ℕ) (line : Line) (table : List Line) → (HasLine 
 put_none case file line table none c f h =
     let t = tells_apart c f case file (λ a b. none (subst (λ z. HasLine z file) a (subst (HasLine c) b h))) in
     sym (ap (λ z. cond z line (line_in table c f)) t)
+
+-- the line that comes next, and those behind it
+pub taken : (lines : List Line) (k : ℕ) (line : Line) (rest : List Line) → drop k lines ≡ line ∷ rest → (get_or lines k Open ≡ line) × (rest ≡ drop (k + 1) lines)
+taken [] k line rest e = absurd (let n : 0 ≡ length (line ∷ rest) = ap length (sym (drop-nil k) ∙ e) in omega arith)
+taken (first ∷ lines) zero line rest e = (ap (λ z. get_or z 0 line) e, sym (ap (drop 1) e))
+taken (first ∷ lines) (suc k) line rest e = let t = taken lines k line rest e in (t.0, t.1 ∙ ap (λ n. drop n (first ∷ lines)) (let m : suc (k + 1) ≡ suc k + 1 = omega arith in m))
 
 -- one case further
 pub set_more : (file case : ℕ) (given before table table' : List Line) → SetBelow file case given before table

@@ -6,7 +6,7 @@ use Rattle.card.specs.declared.line.Line.{Line}
 use Rattle.card.specs.declared.line.Line.TheVariants.{Open}
 use Rattle.sheet.specs.Tables.{line_in}
 use Rattle.sheet.specs.declared.files.FileSet.{FileSet}
-use Rattle.sheet.specs.declared.table.Sheet.{Sheet}
+use Rattle.sheet.specs.declared.sheet.Sheet.{Sheet}
 use Rattle.sheet.specs.declared.tally.Tally.{Tally}
 
 -- every line is open, and no file is judged

@@ -7,7 +7,7 @@ ghost use Rattle.sheet.specs.Sheets.{Complete, LowestMissing};
 const ALL: u32 = 0x3_ffff;
 
 /// Some of the files of a card.
-#[derive(Clone, Copy, Debug)]
+#[derive(Clone, Copy, Debug, PartialEq, Eq)]
 pub struct FileSet {
     bits: u32,
 }

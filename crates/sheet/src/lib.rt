@@ -4,8 +4,7 @@
 
 pub mod files;
 pub mod sheet;
-pub mod table;
 pub mod tally;
 
-pub use table::Sheet;
+pub use sheet::Sheet;
 pub use tally::Tally;

@@ -1,11 +1,9 @@
-//! What can be done with a sheet: the lines of a file are set together, and a line is looked up by its case and file.
-ghost use Rattle.std.specs.Prelude.{◌≡◌, ℕ, ◌<◌, ◌≤◌, ◌&&◌, if◌then◌else◌, MatchOption, ◌==◌, nat_eq};
+//! The sheet: the lines of a file are set together, and a line is looked up by its case and file.
+ghost use Rattle.std.specs.Prelude.{◌≡◌, ℕ, ◌<◌, ◌≤◌, ◌&&◌, length, if◌then◌else◌, MatchOption, ◌==◌, nat_eq};
 ghost use Rattle.card.specs.Sheets.{HasLine};
 ghost use Rattle.sheet.specs.Tables.{place, line_in};
-ghost use Rattle.sheet.specs.Sheets.{Blank, Written, Complete, LowestMissing, Counts};
 
 use crate::files::FileSet;
-use crate::table::{LINES, Sheet};
 use crate::tally::{Tally, tally_of};
 use card::{EF_SOD, Line};
 
@@ -20,11 +18,11 @@ fn index(case: u8, file: u8) -> Option<usize>
     ensures { MatchOption result (HasLine case file → ⊥) (λ i. HasLine case file × (i ≡ place case file)) }
 {
     match (case, file) {
-        (1..=3, 0..=17) => Some(3 * file as usize + case as usize - 1),
-        (4..=8, 0) => Some(50 + case as usize),
-        (9..=20, 1) => Some(50 + case as usize),
-        (21..=23, 2) => Some(50 + case as usize),
-        (24, 17) => Some(50 + case as usize),
+        (1..=3, 0..=17) => Some(3 * usize::from(file) + usize::from(case) - 1),
+        (4..=8, 0) => Some(50 + usize::from(case)),
+        (9..=20, 1) => Some(50 + usize::from(case)),
+        (21..=23, 2) => Some(50 + usize::from(case)),
+        (24, 17) => Some(50 + usize::from(case)),
         _ => None,
     }
 }
@@ -40,7 +38,20 @@ fn end_of_cases(file: u8) -> u8
     }
 }
 
+/// How many lines there are.
+const LINES: usize = 75;
+
+/// The lines, and which files they were judged for.
+#[derive(Drop)]
+pub struct Sheet {
+    lines: [Line; LINES],
+    judged: FileSet,
+    ghost long: { length lines ≡ 75 },
+}
+
 impl Sheet {
+    ghost use Rattle.sheet.specs.Sheets.{Blank, Written, Complete, LowestMissing, Counts};
+
     /// A sheet with every line open and no file judged.
     pub fn new() -> Sheet
         ensures { Blank result }
@@ -59,9 +70,8 @@ impl Sheet {
         if file > EF_SOD {
             return;
         }
-        let end = end_of_cases(file);
-        for case in 1..end {
-            self.set(case, file, by_case[case as usize - 1]);
+        for (case, line) in (1..end_of_cases(file)).zip(by_case) {
+            self.set(case, file, *line);
         }
         self.judged.insert(file);
     }
@@ -80,9 +90,7 @@ impl Sheet {
     pub fn line(&self, case: u8, file: u8) -> Option<Line>
         ensures { MatchOption result (HasLine case file → ⊥) (λ line. HasLine case file × (line ≡ line_in self.now.lines case file)) }
     {
-        let Some(i) = index(case, file) else {
-            return None;
-        };
+        let i = index(case, file)?;
         Some(self.lines[i])
     }
 
@@ -90,7 +98,7 @@ impl Sheet {
     pub fn lines(&self) -> &[Line]
         ensures { result.now ≡ self.now.lines }
     {
-        &self.lines[0..LINES]
+        &self.lines
     }
 
     /// The lowest file that was not judged.

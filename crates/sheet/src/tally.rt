@@ -3,9 +3,10 @@ ghost use Rattle.std.specs.Prelude.{◌≡◌, ◌+◌, ◌<◌, ◌≤◌, leng
 ghost use Rattle.card.specs.Sheets.{passing, failing, unapplied, blocked};
 
 use card::Line;
+use std::fmt;
 
 /// How many lines pass, fail, are not applicable and are blocked.
-#[derive(Clone, Copy, Debug, PartialEq, Eq)]
+#[derive(Clone, Copy, Debug, Default, PartialEq, Eq)]
 pub struct Tally {
     pub pass: u8,
     pub fail: u8,
@@ -25,10 +26,20 @@ impl Tally {
         match line {
             Line::Open => {}
             Line::Pass => self.pass += 1,
-            Line::Fail { place: _ } => self.fail += 1,
+            Line::Fail { .. } => self.fail += 1,
             Line::NotApplicable => self.not_applicable += 1,
             Line::Blocked => self.blocked += 1,
         }
+    }
+}
+
+impl fmt::Display for Tally {
+    fn fmt<W: fmt::Write>(&self, f: &mut fmt::Formatter<W>) -> fmt::Result {
+        write!(
+            f,
+            "{} pass, {} fail, {} not applicable, {} blocked",
+            self.pass, self.fail, self.not_applicable, self.blocked
+        )
     }
 }
 
@@ -40,12 +51,7 @@ pub(crate) fn tally_of(lines: &[Line]) -> Tally
     ensures unapplied { result.not_applicable ≡ sum_by unapplied lines.now }
     ensures blocked { result.blocked ≡ sum_by blocked lines.now }
 {
-    let mut tally = Tally {
-        pass: 0,
-        fail: 0,
-        not_applicable: 0,
-        blocked: 0,
-    };
+    let mut tally = Tally::default();
     for line in lines {
         tally.count(*line);
     }

@@ -2,8 +2,6 @@
 use Rattle.std.specs.Prelude.{◌≡◌, ℕ, ◌-◌, ◌<◌, ◌≤◌, Bool, true, false, List, ◌++◌, length, take, drop, Some, None, Ok, Err, Option, Result}
 use Rattle.card.specs.Refusals.{Unless, Under, no_other}
 use Rattle.source.specs.Numbers.{of_fault}
-use Rattle.source.specs.declared.read.Answer.{Answer}
-use Rattle.source.specs.declared.read.Answer.TheVariants.{Absent, Bytes}
 use Rattle.source.specs.declared.read.Fault.{Fault}
 
 -- a read that a source may take
@@ -29,13 +27,13 @@ Brings None place wanted count before after = ⊥
 Brings (Some bs) place wanted count before after = Chosen bs place wanted count × (after ≡ take count (drop place bs) ++ drop count before)
 
 -- the answer to a well-formed read of a file over a link that is not lost, with the buffer before and after
-abbrev pub Answers : Option (List ℕ) → ℕ → ℕ → List ℕ → List ℕ → Answer → Type 0
-Answers file place wanted before after Absent = (file ≡ None) × (after ≡ before)
-Answers file place wanted before after (Bytes count) = Brings file place wanted count before after
+abbrev pub Answers : Option (List ℕ) → ℕ → ℕ → List ℕ → List ℕ → Option ℕ → Type 0
+Answers file place wanted before after None = (file ≡ None) × (after ≡ before)
+Answers file place wanted before after (Some count) = Brings file place wanted count before after
 
 -- The outcome of a read, with whether the link is lost and the buffer, both before and after. A refusal leaves the
 -- buffer. Over a lost link every well-formed read is refused, and a link that is the reason for a refusal is lost.
-abbrev pub Reads : Option (List ℕ) → Bool → Bool → ℕ → ℕ → ℕ → List ℕ → List ℕ → Result Answer Fault → Type 0
+abbrev pub Reads : Option (List ℕ) → Bool → Bool → ℕ → ℕ → ℕ → List ℕ → List ℕ → Result (Option ℕ) Fault → Type 0
 Reads bs lost lost' file place wanted before after (Err fault) =
     Unless 7 (WellFormed file wanted before) (Under 6 (λ _. lost' ≡ true) no_other) (of_fault fault) × (after ≡ before)
 Reads bs lost lost' file place wanted before after (Ok answer) =

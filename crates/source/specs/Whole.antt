@@ -4,8 +4,6 @@ use Rattle.card.specs.Cards.{content}
 use Rattle.card.specs.Refusals.{Unless, Under, no_other, value}
 use Rattle.source.specs.Numbers.{of_whole}
 use Rattle.source.specs.Reads.{laid}
-use Rattle.source.specs.declared.read.Answer.{Answer}
-use Rattle.source.specs.declared.read.Answer.TheVariants.{Absent, Bytes}
 use Rattle.source.specs.declared.whole.WholeRefusal.{WholeRefusal}
 
 -- a file of a card, and a buffer that the longest file fits into
@@ -13,11 +11,11 @@ abbrev pub Ready : ℕ → List ℕ → Type 0
 Ready file buffer = (file ≤ 17) × (32767 ≤ length buffer)
 
 -- the buffer then starts with the file, and is otherwise as it was
-abbrev pub Holds : Option (List ℕ) → List ℕ → List ℕ → Answer → Type 0
-Holds None before after Absent = after ≡ before
-Holds None before after (Bytes count) = ⊥
-Holds (Some bs) before after Absent = ⊥
-Holds (Some bs) before after (Bytes count) = (count ≡ length bs) × (after ≡ laid bs before)
+abbrev pub Holds : Option (List ℕ) → List ℕ → List ℕ → Option ℕ → Type 0
+Holds None before after None = after ≡ before
+Holds None before after (Some count) = ⊥
+Holds (Some bs) before after None = ⊥
+Holds (Some bs) before after (Some count) = (count ≡ length bs) × (after ≡ laid bs before)
 
 -- how many bytes were received before the link was lost: the source's choice, but for this
 pub record Received (bs : List ℕ) (lost lost' : Bool) (count : ℕ) : Type 0 where
@@ -28,7 +26,7 @@ pub record Received (bs : List ℕ) (lost lost' : Bool) (count : ℕ) : Type 0 w
 
 -- The outcome of reading a whole file, with whether the link is lost and the buffer, both before and after. The bytes
 -- received before a refusal stand at the buffer's start.
-abbrev pub Wholly : Option (List ℕ) → Bool → Bool → ℕ → List ℕ → List ℕ → Result Answer WholeRefusal → Type 0
+abbrev pub Wholly : Option (List ℕ) → Bool → Bool → ℕ → List ℕ → List ℕ → Result (Option ℕ) WholeRefusal → Type 0
 Wholly bs lost lost' file before after (Err refusal) =
     Unless 2 (file ≤ 17) (Unless 3 (32767 ≤ length before) (Under 6 (Received (content bs) lost lost') no_other)) (of_whole refusal)
     × (after ≡ laid (take (value (of_whole refusal)) (content bs)) before)

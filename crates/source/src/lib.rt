@@ -5,5 +5,5 @@
 pub mod read;
 pub mod whole;
 
-pub use read::{Answer, Fault, Loss, Source, well_formed};
+pub use read::{Fault, Loss, Source, well_formed};
 pub use whole::{WholeRefusal, read_whole};

@@ -1,32 +1,24 @@
 //! What a source of card files means, by ghost members, and what one read of it may answer.
 //! Every source is proved against this one contract, and what reads a source is proved from it alone.
-ghost use Rattle.std.specs.Prelude.{◌≡◌, ℕ, Bool, true, MatchBool, Result};
+ghost use Rattle.std.specs.Prelude.{◌≡◌, ℕ, Bool, true, MatchBool, Option, Result};
 ghost use Rattle.card.specs.Cards.{Files, Short};
 ghost use Rattle.source.specs.Reads.{WellFormed, Reads};
 ghost use Rattle.source.specs.Numbers.{of_fault};
-ghost use Rattle.source.specs.declared.read.Answer.{Answer};
 ghost use Rattle.source.specs.declared.read.Fault.{Fault};
 
-use card::EF_SOD;
+use card::{EF_SOD, Numbered};
+use std::error::Error;
+use std::fmt;
 
 /// How many bytes one read can want at most.
 pub const MOST_WANTED: usize = 255;
 
-/// What a read that is not refused answers.
-#[derive(Clone, Copy, Debug, PartialEq, Eq)]
-pub enum Answer {
-    /// The card has no such file.
-    Absent,
-    /// So many bytes stand at the buffer's start; 0 at or past the file's end.
-    Bytes(usize),
-}
-
 /// What is known of a lost link: as yet no more than that it is lost.
-#[derive(Clone, Copy, Debug)]
+#[derive(Clone, Copy, Debug, PartialEq, Eq)]
 pub struct Loss;
 
 /// Why a read is refused.
-#[derive(Clone, Copy, Debug)]
+#[derive(Clone, Copy, Debug, PartialEq, Eq)]
 pub enum Fault {
     /// The link is lost.
     Lost(Loss),
@@ -34,17 +26,24 @@ pub enum Fault {
     Malformed,
 }
 
-impl Fault {
-    /// The refusal's number.
-    pub fn number(self) -> u8
-        ensures { result ≡ (of_fault self).number }
-    {
+impl Numbered for Fault {
+    ghost refusal = { of_fault };
+
+    fn number(self) -> u8 {
         match self {
             Fault::Lost(_) => 6,
             Fault::Malformed => 7,
         }
     }
 }
+
+impl fmt::Display for Fault {
+    fn fmt<W: fmt::Write>(&self, f: &mut fmt::Formatter<W>) -> fmt::Result {
+        write!(f, "refusal {}", self.number())
+    }
+}
+
+impl Error for Fault {}
 
 /// A source of a card's files over a link that can be lost.
 pub trait Source {
@@ -61,16 +60,17 @@ pub trait Source {
     ghost steps: { Self → ℕ → ℕ → ℕ → Self → Type 0 };
 
     /// What such a read answers, and what it makes of the source then.
-    ghost outcomes: { Self → ℕ → ℕ → ℕ → Result Answer Fault → Self → Type 0 };
+    ghost outcomes: { Self → ℕ → ℕ → ℕ → Result (Option ℕ) Fault → Self → Type 0 };
 
-    /// Reads at most `wanted` bytes of a file from a place on to the buffer's start. The source chooses how many, and when its link is lost.
+    /// Reads at most `wanted` bytes of a file from a place on to the buffer's start: `None` where the card has no such file,
+    /// else how many bytes stand there, 0 at or past the file's end. The source chooses how many, and when its link is lost.
     fn read(
         &mut self,
         file: u8,
         place: u16,
         wanted: usize,
         buffer: &mut [u8],
-    ) -> Result<Answer, Fault>
+    ) -> Result<Option<usize>, Fault>
         ensures files { files self.new ≡ files self.old }
         ensures lasts { lost self.old ≡ true → lost self.new ≡ true }
         ensures reads { Reads (files self.old file) (lost self.old) (lost self.new) file place wanted buffer.old buffer.new result }

@@ -5,14 +5,13 @@ ghost use Rattle.source.specs.Whole.{Ready, Wholly, ReadsOn};
 ghost use Rattle.source.specs.Outcomes.{ReadsWhole};
 ghost use Rattle.source.specs.Numbers.{of_whole};
 
-use crate::read::{Answer, Fault, Loss, MOST_WANTED, Source};
-use card::{EF_SOD, LONGEST};
-
-/// The fewest bytes of an answer before the file's end.
-const FEWEST: usize = 1;
+use crate::read::{Fault, Loss, MOST_WANTED, Source};
+use card::{EF_SOD, LONGEST, Numbered};
+use std::error::Error;
+use std::fmt;
 
 /// Why a file is not read whole.
-#[derive(Clone, Copy, Debug)]
+#[derive(Clone, Copy, Debug, PartialEq, Eq)]
 pub enum WholeRefusal {
     /// A card has no file of this number.
     NoFile,
@@ -22,28 +21,39 @@ pub enum WholeRefusal {
     Lost { received: u16, loss: Loss },
 }
 
-impl WholeRefusal {
-    /// The refusal's number.
-    pub fn number(self) -> u8
-        ensures { result ≡ (of_whole self).number }
-    {
+impl Numbered for WholeRefusal {
+    ghost refusal = { of_whole };
+
+    fn number(self) -> u8 {
         match self {
             WholeRefusal::NoFile => 2,
             WholeRefusal::ShortBuffer => 3,
-            WholeRefusal::Lost {
-                received: _,
-                loss: _,
-            } => 6,
+            WholeRefusal::Lost { .. } => 6,
         }
     }
 }
 
-/// Reads a whole file to the buffer's start, and says how many bytes it has.
+impl fmt::Display for WholeRefusal {
+    fn fmt<W: fmt::Write>(&self, f: &mut fmt::Formatter<W>) -> fmt::Result {
+        write!(f, "refusal {}", self.number())?;
+        match *self {
+            WholeRefusal::Lost { received, .. } => write!(
+                f,
+                ", the link is lost after {received} bytes"
+            ),
+            _ => Ok(()),
+        }
+    }
+}
+
+impl Error for WholeRefusal {}
+
+/// Reads a whole file to the buffer's start, and says how many bytes it has; `None` where it is absent.
 pub fn read_whole<S: Source>(
     source: &mut S,
     file: u8,
     buffer: &mut [u8],
-) -> Result<Answer, WholeRefusal>
+) -> Result<Option<usize>, WholeRefusal>
     ensures files { S.files source.new ≡ S.files source.old }
     ensures lasts { S.lost source.old ≡ true → S.lost source.new ≡ true }
     ensures wholly { Wholly (S.files source.old file) (S.lost source.old) (S.lost source.new) file buffer.old buffer.new result }
@@ -54,32 +64,16 @@ pub fn read_whole<S: Source>(
     if file > EF_SOD {
         return Err(WholeRefusal::NoFile);
     }
-    if buffer.len() < LONGEST as usize {
+    if buffer.len() < usize::from(LONGEST) {
         return Err(WholeRefusal::ShortBuffer);
     }
-    read_on(source, file, buffer)
-}
-
-/// Reads on from place 0 until the end, an absent answer or as many bytes as a file can have.
-fn read_on<S: Source>(source: &mut S, file: u8, buffer: &mut [u8]) -> Result<Answer, WholeRefusal>
-    requires { Ready file buffer.old }
-    ensures files { S.files source.new ≡ S.files source.old }
-    ensures lasts { S.lost source.old ≡ true → S.lost source.new ≡ true }
-    ensures wholly { Wholly (S.files source.old file) (S.lost source.old) (S.lost source.new) file buffer.old buffer.new result }
-    ensures reads { ReadsOn S.steps file 0 source.old source.new }
-    ensures outcome { ReadsWhole S.outcomes file 0 source.old result source.new }
-{
     let mut have: u16 = 0;
     while have < LONGEST {
-        let wanted = ((LONGEST - have) as usize).min(MOST_WANTED);
-        match source.read(file, have, wanted, &mut buffer[have as usize..]) {
-            Ok(Answer::Absent) => return Ok(Answer::Absent),
-            Ok(Answer::Bytes(count)) => {
-                if count < FEWEST {
-                    return Ok(Answer::Bytes(have as usize));
-                }
-                have += count as u16;
-            }
+        let wanted = usize::from(LONGEST - have).min(MOST_WANTED);
+        match source.read(file, have, wanted, &mut buffer[usize::from(have)..]) {
+            Ok(None) => return Ok(None),
+            Ok(Some(count)) if count == 0 => return Ok(Some(usize::from(have))),
+            Ok(Some(count)) => have += count as u16,
             Err(Fault::Lost(loss)) => return Err(WholeRefusal::Lost {
                 received: have,
                 loss,
@@ -87,5 +81,5 @@ fn read_on<S: Source>(source: &mut S, file: u8, buffer: &mut [u8]) -> Result<Ans
             Err(Fault::Malformed) => unreachable(),
         }
     }
-    Ok(Answer::Bytes(have as usize))
+    Ok(Some(usize::from(have)))
 }

@@ -1,14 +1,13 @@
 //! Images at their edges, and files of every length that there is.
+use crate::number;
 use image::{Image, ImageRefusal};
-use source::{Answer, Source, WholeRefusal, read_whole};
+use source::{Source, read_whole};
 use std::test::Fail;
 
 /// Where the first field that breaks starts.
 fn broken(bytes: &[u8]) -> Option<usize> {
-    match Image::check(bytes) {
-        Ok(_) => None,
-        Err(ImageRefusal::Malformed { position }) => Some(position),
-    }
+    let ImageRefusal::Malformed { position } = Image::check(bytes).err()?;
+    Some(position)
 }
 
 #[test]
@@ -43,10 +42,7 @@ fn longest_file(rt: HostRuntime) -> Result<(), Fail> {
     bytes[2] = 0xff;
     let mut buffer = vec![in rt.alloc(); 0u8; 32768]?;
     let mut image = Image::over(&bytes);
-    assert_eq!(rt;
-        read_whole(&mut image, 5, &mut buffer)?,
-        Answer::Bytes(32767)
-    );
+    assert_eq!(rt; read_whole(&mut image, 5, &mut buffer), Ok(Some(32767)));
     assert!(rt; buffer.len() == 32768);
     assert_eq!(rt; buffer[32766], 5);
     assert_eq!(rt; buffer[32767], 0);
@@ -66,8 +62,8 @@ fn file_too_long(rt: HostRuntime) -> Result<(), Fail> {
 fn empty_file_is_not_absent(rt: HostRuntime) -> Result<(), Fail> {
     let mut buffer = vec![in rt.alloc(); 0u8; 32767]?;
     let mut image = Image::over(&[1, 0, 0]);
-    assert_eq!(rt; read_whole(&mut image, 1, &mut buffer)?, Answer::Bytes(0));
-    assert_eq!(rt; read_whole(&mut image, 2, &mut buffer)?, Answer::Absent);
+    assert_eq!(rt; read_whole(&mut image, 1, &mut buffer), Ok(Some(0)));
+    assert_eq!(rt; read_whole(&mut image, 2, &mut buffer), Ok(None));
     Ok(())
 }
 
@@ -75,7 +71,7 @@ fn empty_file_is_not_absent(rt: HostRuntime) -> Result<(), Fail> {
 fn bad_image_has_no_files(rt: HostRuntime) -> Result<(), Fail> {
     let mut buffer = vec![in rt.alloc(); 0u8; 32767]?;
     let mut image = Image::over(&[1, 0, 1, 7, 9]);
-    assert_eq!(rt; read_whole(&mut image, 1, &mut buffer)?, Answer::Absent);
+    assert_eq!(rt; read_whole(&mut image, 1, &mut buffer), Ok(None));
     Ok(())
 }
 
@@ -91,14 +87,6 @@ fn refusals_of_a_whole_file(rt: HostRuntime) -> Result<(), Fail> {
     Ok(())
 }
 
-/// The number of a refusal.
-fn number(outcome: Result<Answer, WholeRefusal>) -> Option<u8> {
-    match outcome {
-        Ok(_) => None,
-        Err(refusal) => Some(refusal.number()),
-    }
-}
-
 #[test]
 fn malformed_reads(rt: HostRuntime) {
     let mut buffer = [9; 255];
@@ -108,9 +96,9 @@ fn malformed_reads(rt: HostRuntime) {
     assert!(rt; image.read(17, 0, 256, &mut buffer).is_err());
     assert!(rt; image.read(17, 0, 5, &mut buffer[0..4]).is_err());
     assert_eq!(rt; buffer[0], 9);
-    assert_eq!(rt; image.read(17, 65535, 255, &mut buffer).is_ok(), true);
+    assert!(rt; image.read(17, 65535, 255, &mut buffer).is_ok());
     assert_eq!(rt; buffer[0], 9);
-    assert_eq!(rt; image.read(17, 1, 255, &mut buffer).is_ok(), true);
+    assert!(rt; image.read(17, 1, 255, &mut buffer).is_ok());
     assert_eq!(rt; buffer[0], 2);
     assert_eq!(rt; buffer[1], 9);
 }

@@ -5,3 +5,12 @@
 mod images;
 #[cfg(test)]
 mod links;
+
+#[cfg(test)]
+use card::Numbered;
+
+/// The number of the refusal, where there is one.
+#[cfg(test)]
+fn number<T: Drop, E: Numbered + Drop>(outcome: Result<T, E>) -> Option<u8> {
+    outcome.err().map(E::number)
+}

@@ -1,2 +1,3 @@
 pub mod Weights
+mod Turns
 mod Pairs

@@ -1,34 +1,8 @@
--- Weighted sums: parts of a field, one character more, and one character put for another.
-use Rattle.std.proofs.Common.{◌≡◌, ℕ, zero, suc, ◌+◌, ◌-◌, ◌*◌, ◌/◌, ◌%◌, ◌<◌, ◌⊎◌, List, [], ◌∷◌, ◌++◌, length, get_or, take, set, refl, ap, inl, inr, add-zero, zero-add, arith}
-use Rattle.std.proofs.lemmas.List.{take_more, length-take-le}
+-- Weighted sums: one character put for another.
+use Rattle.std.proofs.Common.{◌≡◌, ℕ, zero, suc, ◌+◌, ◌-◌, ◌*◌, ◌/◌, ◌%◌, ◌<◌, ◌⊎◌, List, [], ◌∷◌, length, get_or, set, refl, ap, inl, inr, add-zero, zero-add, arith}
 use Rattle.std.proofs.lemmas.Bool.Decides.{nat_tests}
 use Rattle.text.specs.Characters.{Digit}
 use Rattle.text.specs.Digits.{value_of, weights, weight_at, weighted, check_digit_of, ChangesShow}
-
--- the weights depend on the place by 3 alone
-pub weighted_turn : (xs : List ℕ) (j k : ℕ) → j % 3 ≡ k % 3 → weighted j xs ≡ weighted k xs
-weighted_turn [] j k e = refl
-weighted_turn (x ∷ xs) j k e =
-    let s : suc j % 3 ≡ suc k % 3 = omega arith in
-    let t = weighted_turn xs (suc j) (suc k) s in
-    let w : weight_at j ≡ weight_at k = ap (λ m. get_or weights m 0) e in
-    cc
-
--- the weights run on from one part to the next
-pub weighted_append : (xs ys : List ℕ) (k : ℕ) → weighted k (xs ++ ys) ≡ weighted k xs + weighted (k + length xs) ys
-weighted_append [] ys k = simp (zero-add, add-zero)
-weighted_append (x ∷ xs) ys k =
-    let ih = weighted_append xs ys (suc k) in
-    let e : suc k + length xs ≡ k + suc (length xs) = omega arith in
-    let t : weighted (suc k + length xs) ys ≡ weighted (k + suc (length xs)) ys = ap (λ m. weighted m ys) e in
-    omega arith
-
--- one character more
-pub weighted_more : (xs : List ℕ) (i k : ℕ) → i < length xs →
-    weighted k (take (i + 1) xs) ≡ weighted k (take i xs) + weight_at (k + i) * value_of (get_or xs i 0)
-weighted_more xs i k h =
-    let l : length (take i xs) ≡ i = length-take-le i xs (omega arith) in
-    rw (take_more xs i 0 h, weighted_append, l) (ap (λ m. weighted k (take i xs) + m) (add-zero _))
 
 -- each weight is 7, 3 or 1
 weight_of : (r : ℕ) → r < 3 → (get_or weights r 0 ≡ 7) ⊎ ((get_or weights r 0 ≡ 3) ⊎ (get_or weights r 0 ≡ 1))
@@ -37,7 +11,7 @@ weight_of (suc zero) h = inr (inl refl)
 weight_of (suc (suc zero)) h = inr (inr refl)
 weight_of (suc (suc (suc r))) h = absurd (omega arith)
 
-pub weight_cases : (k : ℕ) → (weight_at k ≡ 7) ⊎ ((weight_at k ≡ 3) ⊎ (weight_at k ≡ 1))
+weight_cases : (k : ℕ) → (weight_at k ≡ 7) ⊎ ((weight_at k ≡ 3) ⊎ (weight_at k ≡ 1))
 weight_cases k = weight_of (k % 3) (omega arith)
 
 -- what one character put for another does to the sum

@@ -1,5 +1,5 @@
 -- Names: letters and fillers.
-use Rattle.std.specs.Prelude.{◌≡◌, ℕ, ◌+◌, ◌-◌, ◌<◌, ◌≤◌, List, length, slice_index}
+use Rattle.std.specs.Prelude.{◌≡◌, ℕ, ◌+◌, ◌<◌, ◌≤◌, List, length, slice_index}
 use Rattle.text.specs.Characters.{Letter, filler, PlainCharacter}
 
 -- two fillers stand together, at k and after it, both before n
@@ -10,13 +10,17 @@ Pair text n k = (k + 1 < n) × (slice_index text k ≡ filler) × (slice_index t
 abbrev pub OnePair : List ℕ → ℕ → Type 0
 OnePair text n = (j k : ℕ) → Pair text n j → Pair text n k → j ≡ k
 
--- end is the place after the last letter before n, or 0 where no letter stands there
-abbrev pub AfterLast : List ℕ → ℕ → ℕ → Type 0
-AfterLast text n end = (end ≤ n) × (0 < end → Letter (slice_index text (end - 1))) × ((k : ℕ) → end ≤ k → k < n → Letter (slice_index text k) → ⊥)
+-- the first place where they do so
+abbrev pub FirstPair : List ℕ → ℕ → Type 0
+FirstPair text k = Pair text (length text) k × ((j : ℕ) → Pair text (length text) j → k ≤ j)
 
 -- a letter stands at k
 abbrev pub LetterAt : List ℕ → ℕ → Type 0
 LetterAt text k = (k < length text) × Letter (slice_index text k)
+
+-- the last letter stands at k
+abbrev pub LastLetter : List ℕ → ℕ → Type 0
+LastLetter text k = LetterAt text k × ((l : ℕ) → LetterAt text l → l ≤ k)
 
 -- All characters are letters and fillers, and the first is a letter. Before the last letter fillers stand alone, except
 -- that one pair may stand: of the places where two fillers stand together before some letter there is at most one.

@@ -14,7 +14,7 @@ pub fn is_date(field: &[u8]) -> bool
     else {
         return false;
     };
-    1 <= month && month <= 12 && 1 <= day && day <= days_in(year, month)
+    (1..=12).contains(&month) && (1..=days_in(year, month)).contains(&day)
 }
 
 /// The number that two digits write; `None` exactly if one of them is no digit.

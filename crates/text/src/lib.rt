@@ -1,9 +1,9 @@
 //! The texts of the machine readable zone: check digits, dates and names. Nothing here knows where a field stands.
 #![tactic(auto)]
 
-mod dates;
-mod digits;
-mod names;
+pub mod dates;
+pub mod digits;
+pub mod names;
 
 pub use dates::is_date;
 pub use digits::{check_digit, composite_digit};

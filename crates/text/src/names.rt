@@ -1,7 +1,7 @@
 //! Names: letters with single fillers between them and at most one pair of fillers, filled up with fillers.
-ghost use Rattle.std.specs.Prelude.{ℕ, ◌<◌, length, Decides, slice_index};
+ghost use Rattle.std.specs.Prelude.{ℕ, ◌<◌, length, Decides, MatchOption, slice_index};
 ghost use Rattle.text.specs.Characters.{PlainCharacter};
-ghost use Rattle.text.specs.Names.{OnePair, AfterLast, Name};
+ghost use Rattle.text.specs.Names.{Pair, OnePair, FirstPair, LetterAt, LastLetter, Name};
 
 /// Whether the field is a name.
 pub fn is_name(field: &[u8]) -> bool
@@ -10,50 +10,42 @@ pub fn is_name(field: &[u8]) -> bool
     if !is_plain(field) {
         return false;
     }
-    let end = end_of_letters(field);
-    if end == 0 || field[0] == b'<' {
-        return false;
+    match last_letter(field) {
+        Some(last) if field[0] != b'<' => has_one_pair(&field[..=last]),
+        _ => false,
     }
-    has_one_pair(&field[0..end])
 }
 
 /// Whether the field is made of letters and fillers.
 fn is_plain(field: &[u8]) -> bool
     ensures { Decides result ((k : ℕ) → k < length field.now → PlainCharacter (slice_index field.now k)) }
 {
-    for character in field {
-        if !character.is_ascii_uppercase() && *character != b'<' {
-            return false;
-        }
-    }
-    true
+    field.iter().all(|character| character.is_ascii_uppercase() || *character == b'<')
 }
 
-/// The index after the field's last letter; 0 where it has no letter.
-fn end_of_letters(field: &[u8]) -> usize
-    ensures { AfterLast field.now (length field.now) result }
+/// The index of the field's last letter; `None` exactly if it has no letter.
+fn last_letter(field: &[u8]) -> Option<usize>
+    ensures { MatchOption result ((k : ℕ) → LetterAt field.now k → ⊥) (LastLetter field.now) }
 {
-    let mut end = 0;
-    for (i, character) in field.iter().enumerate() {
-        if character.is_ascii_uppercase() {
-            end = i + 1;
-        }
-    }
-    end
+    field
+        .iter()
+        .rposition(|character| character.is_ascii_uppercase())
 }
 
 /// Whether two fillers stand together at most once.
 fn has_one_pair(text: &[u8]) -> bool
     ensures { Decides result (OnePair text.now (length text.now)) }
 {
-    let mut seen = false;
-    for i in 1..text.len() {
-        if text[i - 1] == b'<' && text[i] == b'<' {
-            if seen {
-                return false;
-            }
-            seen = true;
-        }
+    match first_pair(text) {
+        Some(first) => first_pair(&text[first + 1..]).is_none(),
+        None => true,
     }
-    true
+}
+
+/// Where two fillers first stand together; `None` exactly if they do not.
+fn first_pair(text: &[u8]) -> Option<usize>
+    ensures { MatchOption result ((k : ℕ) → Pair text.now (length text.now) k → ⊥) (FirstPair text.now) }
+{
+    text.windows(2)
+        .position(|pair| matches!(*pair, [b'<', b'<']))
 }

@@ -7,3 +7,4 @@ pub mod Zones
 pub mod Faces
 pub mod Verdicts
 pub mod Cards
+mod Own

@@ -1,27 +1,44 @@
 -- From what the tests found to what the lines say.
-use Rattle.std.proofs.Common.{◌≡◌, ℕ, Bool, true, false, List, Decides, sym, refl, subst, arith, eq-eqb, ne_eqb}
+use Rattle.std.proofs.Common.{◌≡◌, ℕ, Bool, true, false, List, Decides, sym, refl, ap, ◌∙◌, ◌==◌, cond, subst, arith}
 use Rattle.std.proofs.lemmas.Bool.Decides.{not_from_Decides}
-use Rattle.card.specs.Lines.{Says, Gates}
+use Rattle.card.specs.Lines.{line_of, Says, Gates}
 use Rattle.card.specs.declared.line.Line.{Line}
 use Rattle.card.specs.declared.line.Line.TheVariants.{Open, Pass, Fail, NotApplicable, Blocked}
+use Rattle.card.specs.Profiles.{kind_of}
+use Rattle.card.specs.declared.profile.Kind.{Kind}
+use Rattle.card.specs.declared.profile.Kind.TheVariants.{Td1, Td2, Td3}
 use Rattle.object.proofs.Laws.{same}
-use Rattle.zone.specs.declared.contents.Zone.{Zone}
+use Rattle.object.specs.declared.reader.Value.{Value}
+use Rattle.std.specs.Fn.{FnReturnsAt}
+use denote.Param.Members.{Shared}
+use denote.Ref.{Bor}
+use Rattle.zone.specs.declared.fields.Field.{Field}
+use Rattle.zone.specs.declared.layout.Span.{Span}
 use Rattle.zone.specs.declared.layout.Places.{Places}
 use Rattle.zone.specs.declared.lines.ZoneLines.{ZoneLines}
 use Rattle.zone.specs.Layouts.{td1, td2, td3, layout_of}
 use Rattle.zone.specs.Contents.{Holds, Contains}
 use Rattle.zone.specs.Fields.{Composite}
-use Rattle.zone.specs.Lines.{line_of, AreCharacterLines, AreLayoutLines}
+use Rattle.zone.specs.Lines.{AreCharacterLines, AreLayoutLines, AreZoneLines}
 
 -- a test that decides P gives the line of P
 pub says : {P : Type 0} (passes : Bool) (place : ℕ) (l : Line) → l ≡ line_of passes place → Decides passes P → Says l P (λ at. at ≡ place)
 says {P} true place l e d = subst (λ m. Says m P (λ at. at ≡ place)) (sym e) (d.0 refl)
 says {P} false place l e d = subst (λ m. Says m P (λ at. at ≡ place)) (sym e) (not_from_Decides false d refl, refl)
 
--- the same of a test over a part that was cut out
-pub says_part : (P : List ℕ → Type 0) (passes : Bool) (place : ℕ) (l : Line) (cut field : List ℕ) → l ≡ line_of passes place → cut ≡ field
-    → Decides passes (P cut) → Says l (P field) (λ at. at ≡ place)
-says_part P passes place l cut field e f d = subst (λ xs. Says l (P xs) (λ at. at ≡ place)) f (says passes place l e d)
+-- the same of a test that was called with a part of a zone
+pub says_part : {F : Type 0} {g : Shared F (Bor (List ℕ) × Unit {0}) Bool} {f : F} {xs : List ℕ} {place : ℕ} {l : Line} (P : List ℕ → Type 0)
+    → (holds : Bool) × FnReturnsAt g f xs holds × (l ≡ line_of holds place)
+    → ((x : Bor (List ℕ)) (holds : Bool) → g.post f (x, tt) holds → Decides holds (P x.now)) → Says l (P xs) (λ at. at ≡ place)
+says_part {place} {l} P c decides =
+    subst (λ ys. Says l (P ys) (λ at. at ≡ place)) c.1.shows (says c.0 place l c.2 (decides c.1.shown c.0 c.1.says.met))
+
+-- and with a field
+pub says_field : {zone : List ℕ} {s : Span} {place : ℕ} {l : Line} (P : List ℕ → Span → Type 0)
+    → (x : Field) × (holds : Bool) × (x.zone.now ≡ zone) × (x.span ≡ s) × (Field × Decides holds (P x.zone.now x.span)) × (l ≡ line_of holds place)
+    → Says l (P zone s) (λ at. at ≡ place)
+says_field {place} {l} P c =
+    subst (λ ys. Says l (P ys _) (λ at. at ≡ place)) c.2 (subst (λ r. Says l (P c.0.zone.now r) (λ at. at ≡ place)) c.3 (says c.1 place l c.5 c.4.1))
 
 -- a line that passes says that its case holds
 says_pass : (P : Type 0) (At : ℕ → Type 0) (l : Line) → l ≡ Pass → Says l P At → P
@@ -32,8 +49,8 @@ passing : (l : Line) (P : Type 0) (At : ℕ → Type 0) (later : P → Type 0) (
 passing l P At later blocked e h s = subst (λ m. Gates m P At later blocked) (sym e) (h, s)
 
 -- the lines of a zone that was found
-pub found : (p : Places) (place : ℕ) (t : List ℕ) (z : Zone) (lines : ZoneLines) → Contains place p.len t z → lines.zone ≡ Pass
-    → AreCharacterLines p z.place z.characters.now lines → AreLayoutLines p place t lines
+pub found : (p : Places) (place : ℕ) (t : List ℕ) (z : Value) (lines : ZoneLines) → Contains place p.len t z → lines.zone ≡ Pass
+    → AreCharacterLines p z.place z.bytes.now lines → AreLayoutLines p place t lines
 found p place t z lines c e s =
     passing lines.zone _ _ _ _ e c.holds
     (subst (λ q. AreCharacterLines p q c.holds.zone lines) c.at (subst (λ xs. AreCharacterLines p z.place xs lines) c.characters s))
@@ -59,11 +76,18 @@ composite_of p place t lines s e h =
     (λ _ fields. subst (λ z. Composite z p.cover p.composite) (same k.has_zone h.has_zone).1 (says_pass _ _ lines.composite e fields.composite)))
 
 -- which layout belongs to a kind
-pub first_layout : (kind : ℕ) → kind ≡ 1 → td1 ≡ layout_of kind
-first_layout kind e = rw (eq-eqb kind 1 e) refl
+abbrev pub places_of : Kind → Places
+places_of Td1 = td1
+places_of Td2 = td2
+places_of Td3 = td3
 
-pub second_layout : (kind : ℕ) → kind ≡ 2 → td2 ≡ layout_of kind
-second_layout kind e = rw e refl
+layout_by_kind : (kind : ℕ) → places_of (kind_of kind) ≡ layout_of kind
+layout_by_kind kind = by_tests (kind == 1) (kind == 2)
+  where
+    by_tests : (one two : Bool) → places_of (cond one Td1 (cond two Td2 Td3)) ≡ cond one td1 (cond two td2 td3)
+    by_tests true two = refl
+    by_tests false true = refl
+    by_tests false false = refl
 
-pub third_layout : (kind : ℕ) → (kind ≡ 1 → ⊥) → (kind ≡ 2 → ⊥) → td3 ≡ layout_of kind
-third_layout kind m n = rw (ne_eqb kind 1 m) (rw (ne_eqb kind 2 n) refl)
+pub under_kind : (kind : ℕ) (k : Kind) (place : ℕ) (t : List ℕ) (lines : ZoneLines) → k ≡ kind_of kind → AreLayoutLines (places_of k) place t lines → AreZoneLines kind place t lines
+under_kind kind k place t lines e s = subst (λ p. AreLayoutLines p place t lines) (ap places_of e ∙ layout_by_kind kind) s

@@ -1,7 +1,7 @@
 -- The zone in DG1's template, and its place.
 use Rattle.std.specs.Prelude.{◌≡◌, ℕ, ◌+◌, List, [], length}
 use Rattle.object.specs.Objects.{Begins, header_size}
-use Rattle.zone.specs.declared.contents.Zone.{Zone}
+use Rattle.object.specs.declared.reader.Value.{Value}
 
 -- the template's value is an object 5F1F of so many bytes, and no more
 pub record Holds (len : ℕ) (template : List ℕ) : Type 0 where
@@ -14,7 +14,7 @@ abbrev pub zone_place : ℕ → {len : ℕ} {template : List ℕ} → Holds len 
 zone_place place h = place + header_size 0x5F1F h.zone
 
 -- what was read is the zone that the template holds, with its place
-pub record Contains (place len : ℕ) (template : List ℕ) (zone : Zone) : Type 0 where
+pub record Contains (place len : ℕ) (template : List ℕ) (zone : Value) : Type 0 where
   pub holds : Holds len template
-  pub characters : zone.characters.now ≡ holds.zone
+  pub characters : zone.bytes.now ≡ holds.zone
   pub at : zone.place ≡ zone_place place holds

@@ -1,8 +1,8 @@
 -- What the lines of cases 9 to 20 of DG1 say.
-use Rattle.std.specs.Prelude.{◌≡◌, ℕ, ◌+◌, Bool, cond, List, Some, None, Option, MatchOption, slice_index}
+use Rattle.std.specs.Prelude.{◌≡◌, ℕ, ◌+◌, List, Some, None, Option, MatchOption, slice_index}
 use Rattle.card.specs.Lines.{Says, Gates}
 use Rattle.card.specs.declared.line.Line.{Line}
-use Rattle.card.specs.declared.line.Line.TheVariants.{Pass, Fail, NotApplicable, Blocked}
+use Rattle.card.specs.declared.line.Line.TheVariants.{NotApplicable, Blocked}
 use Rattle.text.specs.Names.{Name}
 use Rattle.zone.specs.Layouts.{part, layout_of}
 use Rattle.zone.specs.Contents.{Holds, zone_place}
@@ -10,10 +10,6 @@ use Rattle.zone.specs.Fields.{ZoneCharacters, FirstOther, Code, State, Number, D
 use Rattle.zone.specs.declared.layout.Span.{Span}
 use Rattle.zone.specs.declared.layout.Places.{Places}
 use Rattle.zone.specs.declared.lines.ZoneLines.{ZoneLines}
-
--- the line of a case that is judged: it passes, or fails at this place
-abbrev pub line_of : Bool → ℕ → Line
-line_of passes place = cond passes Pass (Fail place)
 
 -- the line of case 19 where an earlier case failed: not applicable wins over blocked
 abbrev pub optional_blocked : Option Span → Line

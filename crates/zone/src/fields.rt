@@ -20,44 +20,28 @@ pub(crate) fn cut(zone: &[u8], span: Span) -> &[u8]
 pub(crate) fn first_other(zone: &[u8]) -> Option<usize>
     ensures { MatchOption result (ZoneCharacters zone.now) (λ k. FirstOther zone.now k) }
 {
-    for (i, character) in zone.iter().enumerate() {
-        if !character.is_ascii_uppercase() && !character.is_ascii_digit() && *character != b'<' {
-            return Some(i);
-        }
-    }
-    None
+    zone.iter().position(|character| !matches!(character, b'A'..=b'Z' | b'0'..=b'9' | b'<'))
 }
 
-/// Whether the field is the code of a passport, or that of a card.
+/// Whether the field is the code of a passport, or that of a card, which is not a visa's.
 pub(crate) fn is_code(field: &[u8], passport: bool) -> bool
     ensures { Decides result (Code passport field.now) }
 {
-    let &[first, second] = field else {
-        return false;
-    };
-    if second != b'<' && !second.is_ascii_uppercase() {
-        return false;
+    match field {
+        [b'P', b'A'..=b'Z' | b'<'] => passport,
+        [b'A' | b'C' | b'I', b'A'..=b'U' | b'W'..=b'Z' | b'<'] => !passport,
+        _ => false,
     }
-    if passport {
-        return first == b'P';
-    }
-    second != b'V' && (first == b'A' || first == b'C' || first == b'I')
 }
 
 /// Whether the field is an issuer or a nationality: one to three letters, then fillers.
 pub(crate) fn is_state(field: &[u8]) -> bool
     ensures { Decides result (State field.now) }
 {
-    let &[first, second, third] = field else {
-        return false;
-    };
-    if !first.is_ascii_uppercase() {
-        return false;
-    }
-    if second == b'<' {
-        return third == b'<';
-    }
-    second.is_ascii_uppercase() && (third == b'<' || third.is_ascii_uppercase())
+    matches!(
+        field,
+        [b'A'..=b'Z', b'<', b'<'] | [b'A'..=b'Z', b'A'..=b'Z', b'A'..=b'Z' | b'<']
+    )
 }
 
 /// Whether the character is a sex.
@@ -67,48 +51,63 @@ pub(crate) fn is_sex(character: u8) -> bool
     matches!(character, b'M' | b'F' | b'<')
 }
 
-/// Whether a field's check digit, right behind it, is right.
-fn has_right_digit(zone: &[u8], field: Span) -> bool
-    requires { Checked (length zone.now) field }
-    ensures { Decides result (RightDigit zone.now field) }
-{
-    zone[field.end] == check_digit(cut(zone, field)) + b'0'
+/// A field of a zone, with its check digit right behind it.
+#[derive(Clone, Copy)]
+pub(crate) struct Field<'a> {
+    pub zone: &'a [u8],
+    pub span: Span,
+    ghost checked: { Checked (length zone.now) span },
 }
 
-/// Whether the field is a number, and its check digit right.
-pub(crate) fn is_number(zone: &[u8], field: Span) -> bool
-    requires { Checked (length zone.now) field }
-    ensures { Decides result (Number zone.now field) }
-{
-    zone[field.start] != b'<' && has_right_digit(zone, field)
-}
+impl<'a> Field<'a> {
+    /// Its characters.
+    fn characters(self) -> &'a [u8]
+        ensures { result.now ≡ part self.entry.zone.now self.entry.span }
+    {
+        cut(self.zone, self.span)
+    }
 
-/// Whether the field is a date, and its check digit right.
-pub(crate) fn is_dated(zone: &[u8], field: Span) -> bool
-    requires { Checked (length zone.now) field }
-    ensures { Decides result (Dated zone.now field) }
-{
-    is_date(cut(zone, field)) && has_right_digit(zone, field)
-}
+    /// The character behind it, which is its check digit.
+    fn digit(self) -> u8
+        ensures { result ≡ slice_index self.entry.zone.now self.entry.span.end }
+    {
+        self.zone[self.span.end]
+    }
 
-/// Whether the check digit of the optional field is right, or a filler behind a field of fillers.
-pub(crate) fn is_optional(zone: &[u8], field: Span) -> bool
-    requires { Checked (length zone.now) field }
-    ensures { Decides result (Optional zone.now field) }
-{
-    has_right_digit(zone, field) || zone[field.end] == b'<' && is_filled(cut(zone, field))
+    /// Whether its check digit is right.
+    fn has_right_digit(self) -> bool
+        ensures { Decides result (RightDigit self.entry.zone.now self.entry.span) }
+    {
+        self.digit() == check_digit(self.characters()) + b'0'
+    }
+
+    /// Whether it is a number, and its check digit right.
+    pub(crate) fn is_number(self) -> bool
+        ensures { Decides result (Number self.entry.zone.now self.entry.span) }
+    {
+        self.zone[self.span.start] != b'<' && self.has_right_digit()
+    }
+
+    /// Whether it is a date, and its check digit right.
+    pub(crate) fn is_dated(self) -> bool
+        ensures { Decides result (Dated self.entry.zone.now self.entry.span) }
+    {
+        is_date(self.characters()) && self.has_right_digit()
+    }
+
+    /// Whether its check digit is right, or a filler behind a field of fillers.
+    pub(crate) fn is_optional(self) -> bool
+        ensures { Decides result (Optional self.entry.zone.now self.entry.span) }
+    {
+        self.has_right_digit() || self.digit() == b'<' && is_filled(self.characters())
+    }
 }
 
 /// Whether the field is all fillers.
 fn is_filled(field: &[u8]) -> bool
     ensures { Decides result ((k : ℕ) → k < length field.now → slice_index field.now k ≡ filler) }
 {
-    for character in field {
-        if *character != b'<' {
-            return false;
-        }
-    }
-    true
+    field.iter().all(|character| *character == b'<')
 }
 
 /// Whether the composite, which stands at this index, is right.

@@ -1,113 +1,108 @@
 //! The judge of the zone, written once for every layout.
-ghost use Rattle.std.specs.Prelude.{◌≡◌, ◌+◌, ◌^◌, ◌<◌, length, IfSome};
+ghost use Rattle.std.specs.Prelude.{◌≡◌, ◌+◌, Bool, length};
+ghost use Rattle.std.specs.Fn.{FnReturnsAt};
+ghost use Rattle.card.specs.Lines.{line_of};
 ghost use Rattle.card.specs.declared.line.Line.TheVariants.{Pass};
 ghost use Rattle.object.specs.Readers.{rest_of};
-ghost use Rattle.zone.specs.Layouts.{Checked};
-ghost use Rattle.zone.specs.Lines.{line_of, IsOptionalLine, AreFieldLines, AreCharacterLines, AreLayoutLines, blocked_zone_lines};
+ghost use Rattle.zone.specs.Layouts.{part, Within, Checked, Lawful};
+ghost use Rattle.zone.specs.Lines.{AreFieldLines, AreCharacterLines, AreLayoutLines, blocked_zone_lines};
+ghost use Rattle.zone.specs.declared.fields.Field.{Field};
 ghost use Rattle.zone.specs.Changes.{ChangesShow};
 
 use crate::contents::read_zone;
-use crate::fields::{
-    cut, first_other, is_code, is_composite, is_dated, is_number, is_optional, is_sex, is_state,
-};
+use crate::fields::{Field, cut, first_other, is_code, is_composite, is_sex, is_state};
 use crate::layout::{Layout, Places, Span};
 use crate::lines::ZoneLines;
 use card::Line;
-use object::Reader;
+use object::{Reader, Value};
 use text::is_name;
 
 /// Cases 9 to 20, over the value of DG1's template, which the reader has before it.
 pub(crate) fn judge<L: Layout>(reader: Reader<'_>) -> ZoneLines
-    ensures lines { AreLayoutLines L.Layout.layout reader.entry.position (rest_of reader.entry) result }
-    ensures changes { ChangesShow L.Layout.layout (rest_of reader.entry) result }
+    ensures lines { AreLayoutLines L.PLACES reader.entry.position (rest_of reader.entry) result }
+    ensures changes { ChangesShow L.PLACES (rest_of reader.entry) result }
 {
-    let place = reader.position;
     let places = L::spans();
-    let Some(zone) = read_zone(reader, places.len) else {
-        return ZoneLines {
-            zone: Line::Fail { place },
+    match read_zone(reader, places.len) {
+        Some(zone) => judge_zone(zone, places),
+        None => ZoneLines {
+            zone: Line::Fail {
+                place: reader.position,
+            },
             ..blocked(places)
-        };
-    };
-    judge_zone::<L>(zone.characters, zone.place)
-}
-
-/// Cases 10 to 20, over a zone at this place.
-fn judge_zone<L: Layout>(zone: &[u8], place: usize) -> ZoneLines
-    requires { (length zone.now ≡ L.Layout.layout.len) × (place + length zone.now < 2 ^ 64) }
-    ensures zone { result.zone ≡ Pass }
-    ensures lines { AreCharacterLines L.Layout.layout place zone.now result }
-{
-    match first_other(zone) {
-        Some(other) => {
-            let places = L::spans();
-            ZoneLines {
-                zone: Line::Pass,
-                characters: Line::Fail {
-                    place: place + other,
-                },
-                ..blocked(places)
-            }
-        }
-        None => judge_fields::<L>(zone, place),
+        },
     }
 }
 
-/// Cases 11 to 20, over a zone at this place.
-fn judge_fields<L: Layout>(zone: &[u8], place: usize) -> ZoneLines
-    requires { (length zone.now ≡ L.Layout.layout.len) × (place + length zone.now < 2 ^ 64) }
-    ensures gates { (result.zone ≡ Pass) × (result.characters ≡ Pass) }
-    ensures lines { AreFieldLines L.Layout.layout place zone.now result }
+/// Cases 10 to 20, over a zone with its fields in these places.
+fn judge_zone(zone: Value<'_>, places: Places) -> ZoneLines
+    requires lawful { Lawful places }
+    requires long { length zone.bytes.now ≡ places.len }
+    ensures zone { result.zone ≡ Pass }
+    ensures lines { AreCharacterLines places zone.entry.place zone.entry.bytes.now result }
 {
-    let places = L::spans();
+    match first_other(zone.bytes) {
+        Some(other) => ZoneLines {
+            zone: Line::Pass,
+            characters: Line::Fail {
+                place: zone.place + other,
+            },
+            ..blocked(places)
+        },
+        None => judge_fields(zone, places),
+    }
+}
+
+/// Cases 11 to 20, over a zone with its fields in these places.
+fn judge_fields(zone: Value<'_>, places: Places) -> ZoneLines
+    requires lawful { Lawful places }
+    requires long { length zone.bytes.now ≡ places.len }
+    ensures gates { (result.zone ≡ Pass) × (result.characters ≡ Pass) }
+    ensures lines { AreFieldLines places zone.entry.place zone.entry.bytes.now result }
+{
     ZoneLines {
         zone: Line::Pass,
         characters: Line::Pass,
-        code: line(
-            is_code(cut(zone, places.code), places.passport),
-            place + places.code.start,
-        ),
-        issuer: line(
-            is_state(cut(zone, places.issuer)),
-            place + places.issuer.start,
-        ),
-        name: line(is_name(cut(zone, places.name)), place + places.name.start),
-        number: line(is_number(zone, places.number), place + places.number.start),
-        nationality: line(
-            is_state(cut(zone, places.nationality)),
-            place + places.nationality.start,
-        ),
-        birth: line(is_dated(zone, places.birth), place + places.birth.start),
-        sex: line(is_sex(zone[places.sex]), place + places.sex),
-        expiry: line(is_dated(zone, places.expiry), place + places.expiry.start),
-        optional: optional_line(zone, places.optional, place),
-        composite: line(
-            is_composite(zone, places.cover, places.composite),
-            place + places.composite,
+        code: judge_part(zone, places.code, |code| is_code(code, places.passport)),
+        issuer: judge_part(zone, places.issuer, is_state),
+        name: judge_part(zone, places.name, is_name),
+        number: judge_field(zone, places.number, Field::is_number),
+        nationality: judge_part(zone, places.nationality, is_state),
+        birth: judge_field(zone, places.birth, Field::is_dated),
+        sex: Line::judged(is_sex(zone.bytes[places.sex]), zone.place + places.sex),
+        expiry: judge_field(zone, places.expiry, Field::is_dated),
+        optional: match places.optional {
+            Some(optional) => judge_field(zone, optional, Field::is_optional),
+            None => Line::NotApplicable,
+        },
+        composite: Line::judged(
+            is_composite(zone.bytes, places.cover, places.composite),
+            zone.place + places.composite,
         ),
     }
 }
 
-/// Case 19, over a zone at this place: not applicable where the layout has no such field.
-fn optional_line(zone: &[u8], optional: Option<Span>, place: usize) -> Line
-    requires { (IfSome optional (Checked (length zone.now))) × (place + length zone.now < 2 ^ 64) }
-    ensures { IsOptionalLine optional place zone.now result }
+/// The line of a part of the zone, by a test of its characters.
+fn judge_part<F: Fn(&[u8]) -> bool>(zone: Value<'_>, span: Span, is_right: F) -> Line
+    requires within { Within (length zone.bytes.now) span }
+    requires callable { F.IsAlwaysCallable is_right }
+    ensures { (holds : Bool) × FnReturnsAt F.Fn is_right (part zone.entry.bytes.now span) holds × (result ≡ line_of holds (zone.entry.place + span.start)) }
 {
-    match optional {
-        Some(field) => line(is_optional(zone, field), place + field.start),
-        None => Line::NotApplicable,
-    }
+    let holds = is_right(cut(zone.bytes, span));
+    Line::judged(holds, zone.place + span.start)
 }
 
-/// The line of a case that is judged: it passes, or fails at this place.
-fn line(passes: bool, place: usize) -> Line
-    ensures { result ≡ line_of passes place }
+/// The line of a field with a check digit, by a test of both.
+fn judge_field<'a, F: Fn(Field<'a>) -> bool>(zone: Value<'a>, span: Span, is_right: F) -> Line
+    requires checked { Checked (length zone.bytes.now) span }
+    requires callable { F.IsAlwaysCallable is_right }
+    ensures { (field : Field) × (holds : Bool) × (field.zone.now ≡ zone.entry.bytes.now) × (field.span ≡ span) × F.post is_right field holds × (result ≡ line_of holds (zone.entry.place + span.start)) }
 {
-    if passes {
-        Line::Pass
-    } else {
-        Line::Fail { place }
-    }
+    let holds = is_right(Field {
+        zone: zone.bytes,
+        span,
+    });
+    Line::judged(holds, zone.place + span.start)
 }
 
 /// The lines where an earlier case failed: blocked, but for a case 19 that does not apply.

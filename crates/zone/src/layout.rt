@@ -44,12 +44,13 @@ pub trait Layout {
     /// Where the fields stand.
     const PLACES: Places;
 
-    // The same, as the definitions have it.
-    ghost layout: { Places };
+    // The same in clauses.
+    ghost PLACES: { Places };
 
     /// `PLACES`, all inside the zone, the covered ones in rising order and before the composite.
+    // Each layout has it itself: that its places are lawful is proved where they are known.
     fn spans() -> Places
-        ensures same { result ≡ layout }
+        ensures same { result ≡ PLACES }
         ensures lawful { Lawful result };
 }
 
@@ -83,7 +84,7 @@ impl Layout for Td1 {
         composite: 59,
     };
 
-    ghost layout = { td1 };
+    ghost PLACES = { td1 };
 
     fn spans() -> Places {
         Self::PLACES
@@ -111,7 +112,7 @@ impl Layout for Td2 {
         composite: 71,
     };
 
-    ghost layout = { td2 };
+    ghost PLACES = { td2 };
 
     fn spans() -> Places {
         Self::PLACES
@@ -139,7 +140,7 @@ impl Layout for Td3 {
         composite: 87,
     };
 
-    ghost layout = { td3 };
+    ghost PLACES = { td3 };
 
     fn spans() -> Places {
         Self::PLACES

@@ -1,12 +1,12 @@
 //! The lines of cases 9 to 20.
-ghost use Rattle.std.specs.Prelude.{◌≡◌};
+ghost use Rattle.std.specs.Prelude.{◌≡◌, [], ◌∷◌};
 ghost use Rattle.object.specs.Readers.{rest_of};
 ghost use Rattle.zone.specs.Layouts.{layout_of};
 ghost use Rattle.zone.specs.Lines.{AreZoneLines, blocked_zone_lines};
 
 use crate::judge::{blocked, judge};
 use crate::layout::{Layout, Td1, Td2, Td3};
-use card::{Line, Profile};
+use card::{Kind, Line, Profile};
 use object::Reader;
 
 /// The lines of cases 9 to 20 of DG1.
@@ -26,14 +26,36 @@ pub struct ZoneLines {
     pub composite: Line,
 }
 
+impl ZoneLines {
+    /// The lines in the order of their cases, 9 to 20.
+    pub fn by_case(self) -> [Line; 12]
+        ensures { result ≡ self.zone ∷ self.characters ∷ self.code ∷ self.issuer ∷ self.name ∷ self.number ∷ self.nationality ∷ self.birth ∷ self.sex ∷ self.expiry ∷ self.optional ∷ self.composite ∷ [] }
+    {
+        [
+            self.zone,
+            self.characters,
+            self.code,
+            self.issuer,
+            self.name,
+            self.number,
+            self.nationality,
+            self.birth,
+            self.sex,
+            self.expiry,
+            self.optional,
+            self.composite,
+        ]
+    }
+}
+
 /// Cases 9 to 20, over the value of DG1's template, which the reader has before it.
 pub fn zone_lines(reader: Reader<'_>, profile: Profile) -> ZoneLines
     ensures { AreZoneLines profile.kind reader.entry.position (rest_of reader.entry) result }
 {
-    match profile.kind() {
-        1 => judge::<Td1>(reader),
-        2 => judge::<Td2>(reader),
-        _ => judge::<Td3>(reader),
+    match profile.zone_kind() {
+        Kind::Td1 => judge::<Td1>(reader),
+        Kind::Td2 => judge::<Td2>(reader),
+        Kind::Td3 => judge::<Td3>(reader),
     }
 }
 
@@ -41,9 +63,9 @@ pub fn zone_lines(reader: Reader<'_>, profile: Profile) -> ZoneLines
 pub fn blocked_lines(profile: Profile) -> ZoneLines
     ensures { result ≡ blocked_zone_lines (layout_of profile.kind) }
 {
-    match profile.kind() {
-        1 => blocked(Td1::spans()),
-        2 => blocked(Td2::spans()),
-        _ => blocked(Td3::spans()),
+    match profile.zone_kind() {
+        Kind::Td1 => blocked(Td1::PLACES),
+        Kind::Td2 => blocked(Td2::PLACES),
+        Kind::Td3 => blocked(Td3::PLACES),
     }
 }

@@ -2,12 +2,11 @@
 //! The expected output is made by tools/zone_table.py, which has the rules of the zone written a second time.
 #![tactic(auto)]
 
-use anyhow::anyhow;
 use card::{Line, Profile};
 use cases::judge_zone;
 use zone::ZoneLines;
 
-/// DG1 with the zone that ICAO Doc 9303 prints, for each layout.
+/// DG1 with a printed specimen zone, for each layout.
 const TD1: &[u8; 95] = b"\x61\x5d\x5f\x1f\x5a\
     I<UTOD231458907<<<<<<<<<<<<<<<7408122F1204159UTO<<<<<<<<<<<6ERIKSSON<<ANNA<MARIA<<<<<<<<<<";
 
@@ -35,11 +34,9 @@ fn run(rt: &HostRuntime) -> anyhow::Result<()> {
 
 /// Prints the failing cases of the file, and of the file with each character of its zone changed in turn.
 fn change_each(rt: &HostRuntime, kind: u8, file: &[u8]) -> anyhow::Result<()> {
-    let Ok(profile) = Profile::new(kind, 0x0003) else {
-        return Err(anyhow!("no such kind"));
-    };
+    let profile = Profile::new(kind, 0x0003)?;
     print!(rt; "TD{kind} as printed:")?;
-    print_failures(rt, judge_zone(Some(file), profile).zone)?;
+    print_failures(rt, judge_zone(Some(file), profile).own)?;
     for index in ZONE..file.len() {
         for character in CHARACTERS {
             let mut changed = file.to_vec(rt.alloc())?;
@@ -49,7 +46,7 @@ fn change_each(rt: &HostRuntime, kind: u8, file: &[u8]) -> anyhow::Result<()> {
             let position = index - ZONE + 1;
             let shown = char::from(*character);
             print!(rt; "TD{kind} {position} {shown}:")?;
-            print_failures(rt, judge_zone(Some(&changed), profile).zone)?;
+            print_failures(rt, judge_zone(Some(&changed), profile).own)?;
         }
     }
     Ok(())
@@ -57,23 +54,8 @@ fn change_each(rt: &HostRuntime, kind: u8, file: &[u8]) -> anyhow::Result<()> {
 
 /// Prints the cases 9 to 20 that fail, each with its place, and ends the line.
 fn print_failures(rt: &HostRuntime, lines: ZoneLines) -> anyhow::Result<()> {
-    let rows = [
-        lines.zone,
-        lines.characters,
-        lines.code,
-        lines.issuer,
-        lines.name,
-        lines.number,
-        lines.nationality,
-        lines.birth,
-        lines.sex,
-        lines.expiry,
-        lines.optional,
-        lines.composite,
-    ];
-    for (i, line) in rows.iter().enumerate() {
-        if let Line::Fail { place } = *line {
-            let case = i.saturating_add(9);
+    for (case, line) in (9..=20).zip(lines.by_case()) {
+        if let Line::Fail { place } = line {
             print!(rt; " {case} at {place};")?;
         }
     }

@@ -21,7 +21,8 @@ returns c =
     (subst (λ d. HoldsVerdict c.in-Ok.profile.kind d file (files file) (λ case. line_in table case file)) p.2 (c.sheet_of-sheet.ensures file l)) in
     let lines = card_lines kind declared files (line_in table) holds in
     let held = card_held kind declared files (line_in table) holds in
-    let t = c.tally-tally.ensures in
+    let t = c.tally.ensures in
+    let n = c.into.ensures in
     let w = c.write_lines.ensures in
     let states = subst (λ z. Each state_of z c.args.states.now c.write_lines.new.states) c.lines.ensures w.states in
     let places = subst (λ z. Each place_of z c.args.places.now c.write_lines.new.places) c.lines.ensures w.places in (
@@ -35,10 +36,10 @@ returns c =
         states = by_place state_of table lines c.args.states.now c.write_lines.new.states held states;
         places = by_place place_of table lines c.args.places.now c.write_lines.new.places held places;
         counts = record {
-          pass = c.from.ensures ∙ t.pass ∙ count_same passing (line_in table) lines held;
-          fail = c.from-2.ensures ∙ t.fail ∙ count_same failing (line_in table) lines held;
-          not_applicable = c.from-3.ensures ∙ t.not_applicable ∙ count_same unapplied (line_in table) lines held;
-          blocked = c.from-4.ensures ∙ t.blocked ∙ count_same blocked (line_in table) lines held;
+          pass = n.pass ∙ t.pass ∙ count_same passing (line_in table) lines held;
+          fail = n.fail ∙ t.fail ∙ count_same failing (line_in table) lines held;
+          not_applicable = n.not_applicable ∙ t.not_applicable ∙ count_same unapplied (line_in table) lines held;
+          blocked = n.blocked ∙ t.blocked ∙ count_same blocked (line_in table) lines held;
         };
         position = refl;
       },

@@ -1,29 +1,23 @@
-use Rattle.std.proofs.Common.{◌≡◌, true, subst}
+use Rattle.std.proofs.Common.{◌≡◌, true, rules, ◌∙◌, subst}
 use Rattle.std.specs.Option.{option_map}
 use Rattle.card.specs.Cards.{template_tag_of}
 use Rattle.card.specs.Profiles.{required}
+use Rattle.object.specs.Readers.{rest_of}
 use Rattle.zone.specs.Layouts.{layout_of}
 use Rattle.zone.specs.Lines.{blocked_zone_lines}
 use Rattle.cases.specs.Files.{ZoneOwn}
-use Rattle.cases.specs.Structures.{Sound, Stopped}
-use Rattle.cases.proofs.Structures.{stopped, passed}
+use Rattle.cases.specs.Structures.{Structured}
+use Rattle.cases.proofs.Structures.{said}
 use Rattle.cases.proofs.zone_file.judge_zone.Goals as goal
 
 -- every profile declares DG1
-pub returns-in-Ok : goal.returns-in-Ok
-returns-in-Ok c =
-    let own = c.zone_lines.result in
-    let file = option_map (λ x. x.now) c.args.content in
+pub returns : goal.returns
+returns c =
+    let own = c.judge_file.result.own in
     let kind = c.args.profile.kind in
-    let is : required c.args.profile.declared 1 ≡ true = c.args.profile.lawful.2 in
-    passed (template_tag_of 1) file true c.in-Ok.field-0 (ZoneOwn kind own) (own ≡ blocked_zone_lines (layout_of kind))
-    (subst (λ b. Sound (template_tag_of 1) file b c.in-Ok.field-0) is c.in-Ok.ensures) c.zone_lines.ensures
-
-pub returns-in-Err : goal.returns-in-Err
-returns-in-Err c =
-    let own = c.blocked_lines.result in
     let file = option_map (λ x. x.now) c.args.content in
-    let kind = c.args.profile.kind in
+    let lines = c.judge_file.result.structure in
     let is : required c.args.profile.declared 1 ≡ true = c.args.profile.lawful.2 in
-    stopped (template_tag_of 1) file true c.in-Err.structure (ZoneOwn kind own) (own ≡ blocked_zone_lines (layout_of kind))
-    (subst (λ b. Stopped (template_tag_of 1) file b c.in-Err.structure) is c.in-Err.ensures) c.blocked_lines.ensures
+    subst (λ b. Structured (template_tag_of 1) file b lines (ZoneOwn kind own) (own ≡ blocked_zone_lines (layout_of kind))) is
+    (said (template_tag_of 1) file (required c.args.profile.declared 1) lines _ (ZoneOwn kind own) _ _
+    (λ place value w. subst (ZoneOwn kind own place) w.2 (subst (λ p. ZoneOwn kind own p (rest_of w.0)) w.1 (search rules))) (λ b. b ∙ c.blocked_lines.ensures) c.judge_file.ensures)

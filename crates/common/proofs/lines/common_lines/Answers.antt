@@ -1,12 +1,13 @@
-use Rattle.std.proofs.Common.{arith, length-drop}
+use Rattle.std.proofs.lemmas.Bool.Decides.{Decides-eqb}
+use Rattle.std.proofs.lemmas.Slice.Eq.{slice_eq-Decides}
 use Rattle.object.specs.Readers.{rest_of}
-use Rattle.common.proofs.Holding.{contains_end, with_contents}
+use Rattle.common.proofs.Holding.{text_line, with_contents}
 use Rattle.common.proofs.lines.common_lines.Goals as goal
-
-pub tag_lines-tags-requires : goal.tag_lines-tags-requires
-tag_lines-tags-requires c = omega (arith, contains_end c.in-Some.ensures, length-drop c.args.reader.position c.args.reader.bytes.now)
 
 pub returns : goal.returns
 returns c =
-    with_contents c.args.declared c.args.reader.position (rest_of c.args.reader) c.in-Some.contents _ _ _ _ c.in-Some.ensures
-    c.version_line-version.ensures c.unicode_line-unicode.ensures c.tag_lines-tags.ensures
+    let k = c.in-Some.field-0 in
+    let v = slice_eq-Decides Decides-eqb k.version.bytes.now c.as_slice.result.now c.eq.result c.eq.ensures in
+    let u = slice_eq-Decides Decides-eqb k.unicode.bytes.now c.as_slice-2.result.now c.eq-2.result c.eq-2.ensures in
+    with_contents c.args.declared c.args.reader.position (rest_of c.args.reader) k _ _ _ _ c.in-Some.ensures
+    (text_line _ _ _ c.judged.ensures (rw c.as_slice.ensures at v)) (text_line _ _ _ c.judged-2.ensures (rw c.as_slice-2.ensures at u)) c.tag_lines-tags.ensures

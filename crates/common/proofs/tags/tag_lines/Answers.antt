@@ -1,8 +1,9 @@
-use Rattle.std.proofs.Common.{length, refl, arith}
-use Rattle.common.proofs.Members.{one_set}
+use Rattle.std.proofs.Common.{refl, arith}
+use Rattle.common.proofs.Members.{tag_lines_when}
 use Rattle.common.proofs.tags.tag_lines.Goals as goal
 
-pub returns-else-set-declared : goal.returns-else-set-declared
-returns-else-set-declared c =
-    let h = c.in-Ok.ensures in
-    (h.0, (λ s. c.if-set-declared.false (one_set c.args.tags.now (length c.args.tags.now) c.in-Ok.set c.args.declared (omega arith) (omega arith) h.1 s), refl))
+pub returns-in-Ok : goal.returns-in-Ok
+returns-in-Ok c = rw c.judged.ensures (tag_lines_when _ _ _ _ c.in-Ok.ensures (omega arith) (omega arith))
+
+pub returns-in-Err : goal.returns-in-Err
+returns-in-Err c = let h = c.in-Err.ensures in rw c.from.ensures ((λ s. s h.0 h.1.within h.1.breaks), h, refl)

@@ -1,11 +1,10 @@
-use Rattle.std.proofs.Common.{length}
+use Rattle.std.proofs.Common.{length, ◌↔◌}
 use Rattle.object.specs.Readers.{rest_of}
 use Rattle.faces.specs.Rising.{feature_list, Rising}
-use Rattle.faces.proofs.Exactly.{Iff}
 use Rattle.faces.proofs.features.are_rising.Given as goal
 
-abbrev pub invariant-loop-tag : goal.invariant-loop-tag
-invariant-loop-tag l = Iff (Rising feature_list l.last (rest_of l.reader)) (Rising feature_list 0 (rest_of l.initial.reader))
+abbrev pub invariant-loop-object : goal.invariant-loop-object
+invariant-loop-object l = (Rising feature_list l.last (rest_of l.reader)) ↔ (Rising feature_list 0 (rest_of l.initial.reader))
 
-abbrev pub decreases-loop-tag : goal.decreases-loop-tag
-decreases-loop-tag l = length (rest_of l.reader)
+abbrev pub decreases-loop-object : goal.decreases-loop-object
+decreases-loop-object l = length (rest_of l.reader)

@@ -1,11 +1,10 @@
-use Rattle.std.proofs.Common.{length}
+use Rattle.std.proofs.Common.{length, ◌↔◌}
 use Rattle.object.specs.Readers.{rest_of}
 use Rattle.faces.specs.Rising.{Has}
-use Rattle.faces.proofs.Exactly.{Iff}
 use Rattle.faces.proofs.features.has.Given as goal
 
-abbrev pub invariant-loop-other : goal.invariant-loop-other
-invariant-loop-other l = Iff (Has (rest_of l.reader) l.tag l.value) (Has (rest_of l.initial.reader) l.tag l.value)
+abbrev pub invariant-loop-object : goal.invariant-loop-object
+invariant-loop-object l = (Has (rest_of l.reader) l.tag l.value) ↔ (Has (rest_of l.initial.reader) l.tag l.value)
 
-abbrev pub decreases-loop-other : goal.decreases-loop-other
-decreases-loop-other l = length (rest_of l.reader)
+abbrev pub decreases-loop-object : goal.decreases-loop-object
+decreases-loop-object l = length (rest_of l.reader)

@@ -1,13 +1,16 @@
 use Rattle.std.proofs.Common.{arith}
+use Rattle.std.proofs.lemmas.Bool.{false≢true}
 use Rattle.object.specs.Readers.{rest_of}
-use Rattle.faces.proofs.Rows.{row_on, row_not, row_end}
+use Rattle.faces.proofs.Rows.{row_on, row_not}
+use Rattle.faces.proofs.Groupings.{taken, missed}
 use Rattle.faces.proofs.group.is_row.Goals as goal
 
-pub returns-in_default : goal.returns-in_default
-returns-in_default c w = row_not _ _ c.loop-i._i (omega arith) c.in_default.ensures.lacks (c.loop-i.invariant.1 w)
+pub returns-then-is_none : goal.returns-then-is_none
+returns-then-is_none c =
+    let m = missed _ c.take.result c.if-is_none.ensures c.take.ensures in
+    (λ w. absurd (false≢true w), λ w. absurd (row_not _ _ c.loop.counter (omega arith) m.lacks (c.loop.invariant.1 w)))
 
-pub loop-i-preserved : goal.loop-i-preserved
-loop-i-preserved c = row_on _ _ c.loop-i._i {r = rest_of c.take.new.self} (omega arith) c.in-Some.ensures.begins c.loop-i.invariant
-
-pub returns : goal.returns
-returns c = row_end _ _ c.loop-i._i _ _ _ c.loop-i-test.false c.is_done.ensures c.loop-i.invariant
+pub loop-preserved : goal.loop-preserved
+loop-preserved c =
+    let t = taken _ c.take.result c.if-is_none.ensures c.take.ensures in
+    row_on _ _ c.loop.counter {r = rest_of c.take.new.self} (omega arith) t.1.0.begins c.loop.invariant

@@ -1,37 +1,30 @@
-use Rattle.std.proofs.Common.{◌+◌, drop, refl, subst}
+use Rattle.std.proofs.Common.{◌+◌, refl, rules}
 use Rattle.object.specs.Objects.{header_size}
-use Rattle.faces.specs.Rows.{Stops}
+use Rattle.object.specs.Readers.{rest_of}
+use Rattle.faces.specs.declared.entries.FailingEntry.{FailingEntry}
 use Rattle.faces.specs.Faces.{Entry, Described}
-use Rattle.faces.proofs.Rows.{row_all, stops_not}
+use Rattle.faces.proofs.Rows.{row_all, each_of, fails_at}
 use Rattle.faces.proofs.lines.face_lines.Goals as goal
 
-pub check_contents-requires : goal.check_contents-requires
-check_contents-requires c = row_all _ _ _ c.in-Some.ensures.group.row
+pub check_entries-requires-clause-tagged : goal.check_entries-requires-clause-tagged
+check_entries-requires-clause-tagged c = row_all _ _ _ c.in-Some.ensures.group.row
 
-pub check_features-requires : goal.check_features-requires
-check_features-requires c = row_all _ _ _ c.in-Some.ensures.group.row
+pub check_entries-requires-2-clause-tagged : goal.check_entries-requires-2-clause-tagged
+check_entries-requires-2-clause-tagged c = row_all _ _ _ c.in-Some.ensures.group.row
 
 pub returns-in-Err : goal.returns-in-Err
 returns-in-Err c =
     let f = c.in-Some.ensures in
-    let e = drop c.in-Some.position c.args.reader.bytes.now in
-    let s = c.in-Err.ensures in
-    ((f.count, f.inside, e, f.group), (stops_not s, subst (λ p. Stops 0x7F60 Entry (λ at _. at) p e c.in-Err.place) f.at s, refl))
+    let s = fails_at Entry (λ (e : FailingEntry). e.start) (λ at _. at) (λ at v. refl) (λ v p. search rules) (λ v p. search rules) f.at c.in-Err.ensures in
+    ((f.count, f.inside, rest_of c.in-Some.entries, f.group), (s.0, s.1, refl))
 
 pub returns-in-Ok : goal.returns-in-Ok
 returns-in-Ok c =
     let f = c.in-Some.ensures in
-    let e = drop c.in-Some.position c.args.reader.bytes.now in
-    ((f.count, f.inside, e, f.group), (c.in_default-check_contents.ensures, c.in-Ok.ensures))
+    ((f.count, f.inside, rest_of c.in-Some.entries, f.group), (each_of (λ v p. search rules) c.in_default-check_entries.ensures, each_of (λ v p. search rules) c.in-Ok.ensures))
 
-pub returns-in-Err-check_features : goal.returns-in-Err-check_features
-returns-in-Err-check_features c =
+pub returns-in-Err-check_entries : goal.returns-in-Err-check_entries
+returns-in-Err-check_entries c =
     let f = c.in-Some.ensures in
-    let e = drop c.in-Some.position c.args.reader.bytes.now in
-    let s = c.in-Err-check_features.ensures in (
-      (f.count, f.inside, e, f.group),
-      (
-        c.in_default-check_contents.ensures,
-        (stops_not s, subst (λ p. Stops 0x7F60 Described (λ at v. at + header_size 0x7F60 v) p e c.in-Err-check_features.place) f.at s),
-      ),
-    )
+    let s = fails_at Described (λ (e : FailingEntry). e.value) (λ at v. at + header_size 0x7F60 v) (λ at v. refl) (λ v p. search rules) (λ v p. search rules) f.at c.in-Err-check_entries.ensures in
+    ((f.count, f.inside, rest_of c.in-Some.entries, f.group), (each_of (λ v p. search rules) c.in_default-check_entries.ensures, s))

@@ -1,8 +1,7 @@
 use Rattle.std.proofs.Common.{refl, inl, inr, arith}
-use Rattle.std.proofs.lemmas.Result.{MatchResult-weaker}
 use Rattle.object.specs.Trees.{none}
 use Rattle.object.proofs.Trees.{first_here}
-use Rattle.object.proofs.Steps.{step_plain, step_nested, stops_nested, inner, to_read, all_read}
+use Rattle.object.proofs.Steps.{step_plain, nested, inner, to_read, all_read}
 use Rattle.object.proofs.tiling.+read_object_read_objects.Goals as goal
 
 pub read_object-returns-then-levels-eq0 : goal.read_object-returns-then-levels-eq0
@@ -18,7 +17,7 @@ pub read_object-returns-in-Nested : goal.read_object-returns-in-Nested
 read_object-returns-in-Nested t c =
     let k = rw c.in-Nested.is at c.in-Some.ensures in
     let e = inner _ k c.split_at.ensures.front in
-    MatchResult-weaker _ c.read_objects.ensures (λ _ h. step_nested _ k refl (omega arith) (rw e at h)) (λ q f. stops_nested _ k refl (omega arith) q (rw e at f))
+    nested c.args.levels c.read_objects.result k refl (omega arith) (rw e at c.read_objects.ensures)
 
 pub read_objects-returns : goal.read_objects-returns
 read_objects-returns t c = c.loop-reader.invariant.tiled (none, tt, all_read c.loop-reader.reader c.loop-reader-test.false)

@@ -1,11 +1,8 @@
-use Rattle.std.proofs.Common.{◌≡◌, ◌∙◌, arith}
+use Rattle.std.proofs.Common.{◌∙◌, ap, append-nil}
 use Rattle.text.specs.Digits.{check_digit_of}
-use Rattle.text.proofs.Weights.{weighted_turn, changed}
+use Rattle.text.proofs.Weights.{changed}
 use Rattle.text.proofs.digits.check_digit.Goals as goal
 
-pub returns : goal.returns
-returns c =
-    let xs = c.args.characters.now in
-    let t = weighted_turn xs c.new.result.turn 0 (omega arith) in
-    let e : c.add.result.sum ≡ check_digit_of xs = omega arith in
-    record { digit = e; changes = λ i d h p q n f. changed xs i d h p q n (f ∙ e) }
+pub returns-clause-changes : goal.returns-clause-changes
+returns-clause-changes c = λ i d h p q n e.
+    changed c.args.characters.now i d h p q n (e ∙ c.composite_digit.ensures ∙ ap check_digit_of (append-nil c.args.characters.now))

@@ -1,5 +1,8 @@
-use Rattle.std.proofs.Common.{◌+◌, ◌++◌, length, arith}
-use Rattle.text.proofs.Weights.{weighted_append, weighted_turn}
+use Rattle.std.proofs.Common.{◌++◌, ◌∙◌, ap, append_assoc, rules}
+use Rattle.std.proofs.lemmas.Iterator.{YieldsList-from_slice}
+use Rattle.std.proofs.lemmas.Iterator.Consumers.{YieldsList-from_chain, fold_from_yields_List}
+use Rattle.text.specs.Digits.{check_digit_of}
+use Rattle.text.proofs.Turns.{plus, sum_weighed, yields}
 use Rattle.text.proofs.digits.composite_digit.Goals as goal
 
 pub returns : goal.returns
@@ -7,7 +10,8 @@ returns c =
     let xs = c.args.first.now in
     let ys = c.args.second.now in
     let zs = c.args.third.now in
-    let t1 = weighted_turn xs c.new.result.turn 0 (omega arith) in
-    let t2 = weighted_turn ys c.add.result.turn (0 + length xs) (omega arith) in
-    let t3 = weighted_turn zs c.add-2.result.turn (0 + length xs + length ys) (omega arith) in
-    omega (arith, weighted_append xs (ys ++ zs) 0, weighted_append ys zs (0 + length xs))
+    fold_from_yields_List _ plus 0 c.fold.result c.fold.ensures.ran
+    (yields _ (λ a b e. e) (YieldsList-from_chain (YieldsList-from_chain (YieldsList-from_slice xs (cc)) (YieldsList-from_slice ys (cc)) (cc) (cc)) (YieldsList-from_slice zs (cc)) (cc) (cc)) (cc) (cc))
+    (λ a x b q k. search rules)
+    ∙ sum_weighed ((xs ++ ys) ++ zs)
+    ∙ ap check_digit_of (append_assoc xs ys zs)

@@ -1,13 +1,6 @@
 use Rattle.std.proofs.Common.{refl}
-use Rattle.object.proofs.Laws.{unread_none, unread_long}
 use Rattle.object.proofs.Cuts.{cut_from}
 use Rattle.object.proofs.reader.Reader.next.Goals as goal
-
-pub returns-in_err-tag : goal.returns-in_err-tag
-returns-in_err-tag c = rw c.from_residual.ensures record { unread = unread_none c.split_at.ensures.back c.in_err-tag.ensures.value; bytes = refl; position = refl }
-
-pub returns-then-size-length : goal.returns-then-size-length
-returns-then-size-length c = record { unread = unread_long _ c.split_at.ensures.back c.in_ok-tag.ensures.value c.if-size-length.true; bytes = refl; position = refl }
 
 pub returns-then-is_nested : goal.returns-then-is_nested
 returns-then-is_nested c =

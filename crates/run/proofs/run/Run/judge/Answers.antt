@@ -1,6 +1,7 @@
-use Rattle.std.proofs.Common.{◌≡◌, false, Ok, Err, refl, ap, ◌∙◌, subst}
+use Rattle.std.proofs.Common.{◌≡◌, false, Ok, Err, refl, ap, ◌∙◌, subst, rules}
 use borrow.Author.Tests.{both_ways}
 use Rattle.std.proofs.lemmas.Result.{err_from_is_err_and}
+use Rattle.std.specs.Option.{option_map}
 use Rattle.source.specs.Whole.{Ready}
 use Rattle.verdict.specs.Verdicts.{AreFileLines, by_case}
 use Rattle.run.specs.Calls.{Judges}
@@ -19,10 +20,11 @@ returns g c =
     let after = c.read_whole.new.buffer in
     let source' = c.read_whole.new.source in
     let sheet' = c.write.new.self in
-    let h = c.in_ok-answer.ensures in
+    let h = c.in_ok-count.ensures in
     let w = h.wholly in
-    let whole = read_whole bytes before after c.in_ok-answer.answer w.2 in
+    let whole = read_whole bytes before after c.in_ok-count.count w.2 in
     let v = c.in-Some.ensures in
+    let content_is : option_map (λ x. x.now) c.map-content.result ≡ bytes = search rules ∙ whole.1 in
     let k = c.write.ensures.sets v.0 in
     let unclosed = c.if-self.false in
     let link : (run.closed ≡ false → Ready file before → ⊥) → m.lost source' ≡ m.lost run.source = λ n. ap m.lost (h.still (n unclosed)) in
@@ -34,7 +36,7 @@ returns g c =
       whole.0,
       record {
         verdict = by_case c.in-Some.lines;
-        given_by_the_cases = subst (λ z. AreFileLines run.profile.kind run.profile.declared file z (by_case c.in-Some.lines)) (c.content_in.ensures ∙ whole.1) v.1;
+        given_by_the_cases = subst (λ z. AreFileLines run.profile.kind run.profile.declared file z (by_case c.in-Some.lines)) content_is v.1;
         lines = k.lines;
         judged = k.judged;
       },
@@ -44,7 +46,7 @@ returns g c =
       lasts = h.lasts;
       same = (refl, refl);
       judges = j;
-      reads = λ _ r. record { outcome = Ok c.in_ok-answer.answer; reads = h.outcome r; comes = tt };
+      reads = λ _ r. record { outcome = Ok c.in_ok-count.count; reads = h.outcome r; comes = tt };
       lawful = lawful_judge (m.files run.source) run.profile run.closed run.closed (m.lost run.source) (m.lost source') file before after run.sheet sheet' refl link (Ok tt) j;
       still = λ n. h.still (n unclosed);
     }
@@ -68,16 +70,16 @@ returns-then-self g c =
       still = λ _. refl;
     }
 
-pub returns-in_err-answer : goal.returns-in_err-answer
-returns-in_err-answer g c =
+pub returns-in_err-count : goal.returns-in_err-count
+returns-in_err-count g c =
     let m = g.S.Source in
     let run = c.args.self.now in
     let file = c.args.file in
     let before = c.args.buffer.now in
     let after = c.read_whole.new.buffer in
     let source' = c.read_whole.new.source in
-    let h = c.in_err-answer.ensures in
-    let refusal = c.in_err-answer.field-0.0 in
+    let h = c.in_err-count.ensures in
+    let refusal = c.in_err-count.field-0.0 in
     let unclosed = c.if-self.false in
     let link : (run.closed ≡ false → Ready file before → ⊥) → m.lost source' ≡ m.lost run.source = λ n. ap m.lost (h.still (n unclosed)) in
     let j = unread run.profile.kind run.profile.declared (m.files run.source file) run.closed (m.lost run.source) (m.lost source') file before after run.sheet refusal unclosed h.wholly in

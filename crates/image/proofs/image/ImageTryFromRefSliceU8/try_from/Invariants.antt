@@ -1,0 +1,13 @@
+use Rattle.std.proofs.Common.{◌≡◌, ◌-◌, length}
+use Rattle.image.proofs.Passing.{Passed}
+use Rattle.image.proofs.image.ImageTryFromRefSliceU8.try_from.Given as goal
+
+-- lawful fields have been passed up to the place
+abbrev pub invariant-loop-field : goal.invariant-loop-field
+invariant-loop-field l =
+    record {
+      can_next : (goal.iterator-loop-field).can_next l.field-iterator;
+      ends : (goal.iterator-loop-field).is_finite l.field-iterator;
+      passed : Passed l.bytes l.field-iterator.row.now l.lowest;
+      place : l.position ≡ length l.bytes - length l.field-iterator.row.now;
+    }

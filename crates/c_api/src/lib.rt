@@ -11,15 +11,13 @@ ghost use Rattle.c_api.specs.Door.{state_of, place_of, SameCounts, Checks, Makes
 
 use card::{EF_SOD, Line, Numbered, Profile};
 use image::{Image, ImageRefusal};
-use sheet::{Sheet, Tally};
+use sheet::{LINES, Sheet, Tally};
 use verdict::file_lines;
-
-/// How many lines a sheet has.
-const LINES: usize = 75;
 
 /// The refusal of an array that has no room for the lines.
 const NO_ROOM: u32 = 3;
 
+// C's own struct of the counts: `Tally` has bytes, and no layout that C knows.
 /// How many lines pass, fail, are not applicable and are blocked.
 #[repr(C)]
 #[derive(Clone, Copy, Debug)]
@@ -42,6 +40,8 @@ impl From<Tally> for Counts {
         }
     }
 }
+
+// The calls below answer numbers and not enums, since C does.
 
 /// Checks an image: 0, or 8 with the start of the first field that breaks in `position`.
 #[unsafe(no_mangle)]
@@ -90,6 +90,7 @@ fn report(refusal: ImageRefusal, position: &mut u64) -> u32
     ensures { valued result position.new ≡ of_image refusal }
 {
     let ImageRefusal::Malformed { position: start } = refusal;
+    // There is no `From` that leads from `usize` to `u64`.
     *position = start as u64;
     u32::from(refusal.number())
 }
@@ -108,7 +109,7 @@ fn sheet_of(image: Image<'_>, profile: Profile) -> Sheet
     sheet
 }
 
-// One loop over two arrays: C hands them over so.
+// By the index, over the two arrays that C hands over: what is written through an adapter of `iter_mut` is not known afterwards.
 /// Writes the state and the place of each line.
 fn write_lines(lines: &[Line], states: &mut [u8], places: &mut [u64])
     requires { (length lines.now ≡ 75) × (75 ≤ length states.old) × (75 ≤ length places.old) }

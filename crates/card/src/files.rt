@@ -1,10 +1,17 @@
 //! The files of a card by number: 0 is EF.COM, 1 to 16 are DG1 to DG16, 17 is EF.SOD.
+//! A file goes by its number, and not by an enum: an image writes the number, and whoever asks for one may ask for any.
 //! Nothing here looks into a file.
 ghost use Rattle.std.specs.Prelude.{◌≡◌, ◌<◌, ◌≤◌, MatchOption};
 ghost use Rattle.card.specs.Cards.{template_tag_of};
 
 /// The file number of EF.COM, the lowest.
 pub const EF_COM: u8 = 0;
+
+/// The file number of DG1, which has the machine readable zone.
+pub const DG1: u8 = 1;
+
+/// The file number of DG2, which has the faces.
+pub const DG2: u8 = 2;
 
 /// The file number of EF.SOD, the highest.
 pub const EF_SOD: u8 = 17;

@@ -24,6 +24,7 @@ pub enum Kind {
 }
 
 /// A kind of machine readable zone, 1 to 3 for TD1 to TD3, and the data groups that the card is declared to have.
+// Plain numbers: that the profile is lawful is an invariant over them. `zone_kind` has the kind by its name.
 #[derive(Clone, Copy, Debug, PartialEq, Eq)]
 pub struct Profile {
     kind: u8,

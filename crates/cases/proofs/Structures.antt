@@ -1,12 +1,11 @@
 -- From what was found of a file's structure to what its lines say.
-use Rattle.std.proofs.Common.{◌≡◌, ℕ, ◌<◌, ◌≤◌, Bool, true, false, List, [], length, drop, Some, None, MatchBool, Option, refl, ap, ◌∙◌, subst, arith}
+use Rattle.std.proofs.Common.{◌≡◌, ℕ, Bool, true, false, List, drop, Some, None, Option, refl, ◌∙◌, subst}
 use Rattle.card.specs.Lines.{Gates}
 use Rattle.card.specs.declared.line.Line.{Line}
 use Rattle.card.specs.declared.line.Line.TheVariants.{Open, Pass, Fail, NotApplicable, Blocked}
-use Rattle.object.specs.Objects.{Begins, header_size}
+use Rattle.object.specs.Objects.{header_size}
 use Rattle.object.specs.Trees.{Tiled, TiledOnce, NowhereTiled, First}
-use Rattle.object.proofs.Laws.{same, begins_long}
-use Rattle.cases.specs.Templates.{One, Opens}
+use Rattle.cases.specs.Templates.{Opens}
 use Rattle.object.specs.Readers.{rest_of}
 use Rattle.object.specs.declared.reader.Reader.{Reader}
 use Rattle.cases.specs.Structures.{Framed, Structured, Expected, Stopped, Sound}
@@ -44,9 +43,6 @@ passed tag None required reader later blocked s l = absurd s
 passed tag (Some bytes) false reader later blocked s l = absurd s
 passed tag (Some bytes) true reader later blocked s l = (refl, ((rest_of reader, s.begins), (s.tiled, subst (λ p. later p (rest_of reader)) s.at l)))
 
-pub opens_within : {tag start : ℕ} {bytes : List ℕ} → Opens tag bytes start → start ≤ length bytes
-opens_within o = omega (arith, o.at, begins_long o.begins)
-
 -- case 3 fails
 not_tiled : (tag start place : ℕ) (bytes : List ℕ) → Opens tag bytes start → NowhereTiled 15 start (drop start bytes) place → Framed tag bytes (record { present = Pass; template = Pass; tiling = Fail place }) (λ _ _. ⊥) (Unit {0})
 not_tiled tag start place bytes o n = ((drop start bytes, o.begins), (n.not_tiled, subst (λ p. First 15 p (drop start bytes) place) o.at n.first, tt))
@@ -60,7 +56,3 @@ untiled tag place (Some is) true bytes reader e s o n =
 
 pub tiled : {levels : ℕ} {bytes : List ℕ} → TiledOnce levels bytes → Tiled levels bytes
 tiled t = (t.trees, t.lawful, t.written)
-
-pub one_when : {bytes value rest : List ℕ} {tag : ℕ} (b : Bool) → Begins bytes tag value rest → MatchBool b (rest ≡ []) (0 < length rest) → MatchBool b (One tag bytes) (One tag bytes → ⊥)
-one_when {bytes = bytes} {value = v} {tag = tag} true x e = (v, subst (λ r. Begins bytes tag v r) e x)
-one_when false x l = λ w. omega (arith, ap length (same x w.1).2)

@@ -3,11 +3,8 @@ ghost use Rattle.std.specs.Option.{option_map};
 ghost use Rattle.cases.specs.Files.{FaceFile};
 
 use crate::file::{FileLines, judge_file};
-use card::Profile;
+use card::{DG2, Profile};
 use faces::{FaceLines, face_lines};
-
-/// The file number of DG2.
-const DG2: u8 = 2;
 
 /// The lines of DG2: cases 1 to 3, and 21 to 23.
 pub fn judge_faces(content: Option<&[u8]>, profile: Profile) -> FileLines<FaceLines>

@@ -11,6 +11,7 @@ use card::{EF_SOD, Line, Profile, TEMPLATE_TAGS};
 /// DG13, whose value is free.
 const DG13: u8 = 13;
 
+// The content and the profile meet only here: a struct of both would be made for the call and taken apart in it.
 /// The lines of cases 1 to 3 of a file; `None` exactly if there is no file of this number.
 pub fn judge_structure(file: u8, content: Option<&[u8]>, profile: Profile) -> Option<Structure>
     ensures { MatchOption result (17 < file) (λ lines. (file ≤ 17) × AreStructureLines file (required profile.declared file) (option_map (λ x. x.now) content.entry) lines) }

@@ -71,14 +71,13 @@ pub(crate) fn open_file(
     ensures { MatchResult result (λ reader. Sound (template_tag_of file) (option_map (λ x. x.now) content.entry) (required profile.declared file) reader) (λ lines. Stopped (template_tag_of file) (option_map (λ x. x.now) content.entry) (required profile.declared file) lines) }
 {
     let bytes = find_file(content, profile.required(file))?;
-    let reader = match open_template(bytes, TEMPLATE_TAGS[usize::from(file)]) {
-        Ok(reader) => reader,
-        Err(failure) => return Err(Structure {
+    let reader = open_template(bytes, TEMPLATE_TAGS[usize::from(file)]).map_err(
+        |failure| Structure {
             template: failure.into(),
             tiling: Line::Blocked,
             ..Structure::SOUND
-        }),
-    };
+        },
+    )?;
     match tile(reader, LEVELS_INSIDE) {
         Ok(()) => Ok(reader),
         Err(failure) => Err(Structure {

@@ -3,11 +3,8 @@ ghost use Rattle.std.specs.Option.{option_map};
 ghost use Rattle.cases.specs.Files.{ZoneFile};
 
 use crate::file::{FileLines, judge_file};
-use card::Profile;
+use card::{DG1, Profile};
 use zone::{ZoneLines, blocked_lines, zone_lines};
-
-/// The file number of DG1.
-const DG1: u8 = 1;
 
 /// The lines of DG1: cases 1 to 3, and 9 to 20.
 pub fn judge_zone(content: Option<&[u8]>, profile: Profile) -> FileLines<ZoneLines>

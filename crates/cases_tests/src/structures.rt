@@ -1,6 +1,6 @@
 //! Cases 1 to 3 and 24 on short files.
 use card::{Line, Profile};
-use cases::{judge_security, judge_structure};
+use cases::{Structure, judge_security, judge_structure};
 use std::test::Fail;
 
 /// A profile of kind 3 that declares DG1, DG2, DG13 and DG15.
@@ -8,65 +8,70 @@ fn profile() -> Result<Profile, Fail> {
     Ok(Profile::new(3, 0x5003)?)
 }
 
-/// The line of case 2.
-fn template(file: u8, bytes: &[u8]) -> Result<Line, Fail> {
-    Ok(
-        judge_structure(file, Some(bytes), profile()?)
-            .ok_or("no such file")?
-            .template,
-    )
-}
-
-/// The line of case 3.
-fn tiling(file: u8, bytes: &[u8]) -> Result<Line, Fail> {
-    Ok(
-        judge_structure(file, Some(bytes), profile()?)
-            .ok_or("no such file")?
-            .tiling,
-    )
+/// The lines of cases 1 to 3 of a file that is there.
+fn structure(file: u8, bytes: &[u8]) -> Result<Structure, Fail> {
+    Ok(judge_structure(file, Some(bytes), profile()?).ok_or("no such file")?)
 }
 
 #[test]
 fn templates(rt: HostRuntime) -> Result<(), Fail> {
-    assert_eq!(rt; template(13, &[0x6d, 0x00])?, Line::Pass);
-    assert_eq!(rt; template(13, &[0x6d, 0x80])?, Line::Fail { place: 1 });
+    assert_eq!(rt; structure(13, &[0x6d, 0x00])?.template, Line::Pass);
     assert_eq!(rt;
-        template(13, &[0x6d, 0x01, 0x00, 0x00])?,
+        structure(13, &[0x6d, 0x80])?.template,
+        Line::Fail { place: 1 }
+    );
+    assert_eq!(rt;
+        structure(13, &[0x6d, 0x01, 0x00, 0x00])?.template,
         Line::Fail { place: 3 }
     );
-    assert_eq!(rt; template(13, &[0x6d, 0x02, 0x00])?, Line::Fail { place: 3 });
-    assert_eq!(rt; template(13, &[])?, Line::Fail { place: 0 });
-    assert_eq!(rt; template(13, &[0x6e, 0x00])?, Line::Fail { place: 0 });
-    assert_eq!(rt; template(13, &[0x6d])?, Line::Fail { place: 1 });
-    assert_eq!(rt; template(13, &[0x6d, 0x81, 0x7f])?, Line::Fail { place: 1 });
+    assert_eq!(rt;
+        structure(13, &[0x6d, 0x02, 0x00])?.template,
+        Line::Fail { place: 3 }
+    );
+    assert_eq!(rt; structure(13, &[])?.template, Line::Fail { place: 0 });
+    assert_eq!(rt;
+        structure(13, &[0x6e, 0x00])?.template,
+        Line::Fail { place: 0 }
+    );
+    assert_eq!(rt; structure(13, &[0x6d])?.template, Line::Fail { place: 1 });
+    assert_eq!(rt;
+        structure(13, &[0x6d, 0x81, 0x7f])?.template,
+        Line::Fail { place: 1 }
+    );
     Ok(())
 }
 
 #[test]
 fn tilings(rt: HostRuntime) -> Result<(), Fail> {
-    assert_eq!(rt; tiling(15, &[0x6f, 0x00])?, Line::Pass);
-    assert_eq!(rt; tiling(15, &[0x6f, 0x02, 0x30, 0x00])?, Line::Pass);
+    assert_eq!(rt; structure(15, &[0x6f, 0x00])?.tiling, Line::Pass);
     assert_eq!(rt;
-        tiling(15, &[0x6f, 0x02, 0x30, 0x01])?,
+        structure(15, &[0x6f, 0x02, 0x30, 0x00])?.tiling,
+        Line::Pass
+    );
+    assert_eq!(rt;
+        structure(15, &[0x6f, 0x02, 0x30, 0x01])?.tiling,
         Line::Fail { place: 2 }
     );
     assert_eq!(rt;
-        tiling(15, &[0x6f, 0x04, 0x30, 0x02, 0x04, 0x01])?,
+        structure(15, &[0x6f, 0x04, 0x30, 0x02, 0x04, 0x01])?.tiling,
         Line::Fail { place: 4 }
     );
     assert_eq!(rt;
-        tiling(15, &[0x6f, 0x03, 0x04, 0x00, 0x00])?,
+        structure(15, &[0x6f, 0x03, 0x04, 0x00, 0x00])?.tiling,
         Line::Fail { place: 4 }
     );
     assert_eq!(rt;
-        tiling(15, &[0x6f, 0x04, 0x1f, 0x80, 0x00, 0x00])?,
+        structure(15, &[0x6f, 0x04, 0x1f, 0x80, 0x00, 0x00])?.tiling,
         Line::Fail { place: 2 }
     );
     assert_eq!(rt;
-        tiling(15, &[0x6f, 0x05, 0x30, 0x01, 0xff, 0x04, 0x7f])?,
+        structure(15, &[0x6f, 0x05, 0x30, 0x01, 0xff, 0x04, 0x7f])?.tiling,
         Line::Fail { place: 4 }
     );
-    assert_eq!(rt; tiling(13, &[0x6d, 0x01, 0x00])?, Line::NotApplicable);
+    assert_eq!(rt;
+        structure(13, &[0x6d, 0x01, 0x00])?.tiling,
+        Line::NotApplicable
+    );
     Ok(())
 }
 

@@ -37,6 +37,8 @@ impl<S: Source> Changed<S> {
         }
     }
 
+    // Each of the calls below says of the source before and after it what stays: no invariant of the type can.
+
     /// Removes a file for good.
     pub fn remove(&mut self, file: u8) -> Result<(), ChangeRefusal>
         ensures removes { Removes file (length self.old.changes.items) (laid_on self.old.changes.items (S.files self.old.below)) (laid_on self.new.changes.items (S.files self.new.below)) result }

@@ -32,14 +32,13 @@ impl CommonLines {
     pub fn by_case(self) -> [Line; 5]
         ensures { result ≡ self.contents ∷ self.version ∷ self.unicode ∷ self.tags ∷ self.declared ∷ [] }
     {
-        let CommonLines {
-            contents,
-            version,
-            unicode,
-            tags,
-            declared,
-        } = self;
-        [contents, version, unicode, tags, declared]
+        [
+            self.contents,
+            self.version,
+            self.unicode,
+            self.tags,
+            self.declared,
+        ]
     }
 }
 

@@ -28,12 +28,7 @@ impl FaceLines {
     pub fn by_case(self) -> [Line; 3]
         ensures { result ≡ self.group ∷ self.entries ∷ self.features ∷ [] }
     {
-        let FaceLines {
-            group,
-            entries,
-            features,
-        } = self;
-        [group, entries, features]
+        [self.group, self.entries, self.features]
     }
 }
 

@@ -112,7 +112,7 @@ impl<'a> TryFrom<&'a [u8]> for Image<'a> {
 }
 
 impl<'a> Image<'a> {
-    /// The image that the bytes are, or where the first field that breaks starts.
+    /// The image that the bytes are, or where the first field that breaks starts: `try_from` by the word of the rules.
     pub fn check(bytes: &'a [u8]) -> Result<Image<'a>, ImageRefusal>
         ensures { Checks bytes.now result }
     {

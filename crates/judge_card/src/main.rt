@@ -1,20 +1,16 @@
 //! Judges sample cards: reads each file over a chip, judges it, and prints the lines of its cases.
 #![tactic(auto)]
 
-mod report;
-
-use card::{EF_COM, EF_SOD, LONGEST, Profile};
-use cases::{judge_common, judge_faces, judge_security, judge_structure, judge_zone, worked_rows};
+use card::{DG1, DG2, EF_SOD, LONGEST, Line, Profile};
+use cases::worked_rows;
 use changed::Changed;
 use image::{Chip, Image};
-use report::print_file;
 use samples::{OLD_FACE_CARD, TD1_CARD, TD2_CARD, TD3_CARD};
 use source::{Source, read_whole};
+use verdict::file_lines;
 
-/// DG1 and DG2.
-const DG1: u8 = 1;
-
-const DG2: u8 = 2;
+/// The highest case.
+const LAST_CASE: u8 = 24;
 
 fn main(rt: HostRuntime) -> anyhow::Result<()> {
     run(&rt)
@@ -62,8 +58,10 @@ fn judge_file<S: Source>(
     profile: Profile,
 ) -> anyhow::Result<()> {
     match read_whole(source, file, buffer) {
-        Ok(None) => print_lines(rt, file, None, profile),
-        Ok(Some(count)) => print_lines(rt, file, buffer.get(..count), profile),
+        Ok(count) => {
+            let content = count.and_then(|count| buffer.get(..count));
+            print_lines(rt, file, content, profile)
+        }
         Err(refusal) => {
             println!(rt; "  file {file}: {refusal}")?;
             Ok(())
@@ -71,7 +69,7 @@ fn judge_file<S: Source>(
     }
 }
 
-/// Judges a file and prints its lines.
+/// Judges a file and prints the lines of the cases that it has.
 fn print_lines(
     rt: &HostRuntime,
     file: u8,
@@ -79,26 +77,10 @@ fn print_lines(
     profile: Profile,
 ) -> anyhow::Result<()> {
     print!(rt; "  file {file}:")?;
-    match file {
-        EF_COM => {
-            let common = judge_common(content, profile);
-            print_file(rt, common.structure, 4, &common.own.by_case())?;
-        }
-        DG1 => {
-            let zone = judge_zone(content, profile);
-            print_file(rt, zone.structure, 9, &zone.own.by_case())?;
-        }
-        DG2 => {
-            let faces = judge_faces(content, profile);
-            print_file(rt, faces.structure, 21, &faces.own.by_case())?;
-        }
-        EF_SOD => {
-            let security = judge_security(content, profile);
-            print_file(rt, security.structure, 24, &[security.own])?;
-        }
-        _ => {
-            if let Some(structure) = judge_structure(file, content, profile) {
-                print_file(rt, structure, 4, &[])?;
+    if let Some(row) = file_lines(file, content, profile) {
+        for (case, line) in (1..=LAST_CASE).zip(row) {
+            if line != Line::Open {
+                print!(rt; " {case} {line};")?;
             }
         }
     }

@@ -1,9 +1,9 @@
 -- Reading what was written gives it back.
-use Rattle.std.proofs.Common.{◌≡◌, ℕ, ◌+◌, ◌*◌, ◌/◌, ◌%◌, ◌<◌, ◌≤◌, true, false, cond, ltb, List, [], ◌∷◌, ◌++◌, length, drop, Some, None, Option, sym, refl, ap, ◌∙◌, inl, inr, arith, length-append, le-ltb, lt-ltb, eq-eqb, ne_eqb, le-leb}
+use Rattle.std.proofs.Common.{◌≡◌, ℕ, ◌+◌, ◌*◌, ◌/◌, ◌%◌, ◌<◌, ◌≤◌, true, false, cond, ltb, List, [], ◌∷◌, ◌++◌, length, drop, Some, Option, sym, refl, ap, ◌∙◌, inl, inr, arith, length-append, le-ltb, lt-ltb, eq-eqb, ne_eqb, le-leb}
 use lib.Seq.{drop-append_seam, take-append_seam, drop-append-add}
 use native.Mathlib.Decide.{dec_lt}
 use Rattle.object.specs.Reading.{Head, header_of, tag_of, length_of, tagged, sized}
-use Rattle.object.specs.Objects.{Begins, Unread, header_size, LawfulTag, tag_bytes, length_bytes}
+use Rattle.object.specs.Objects.{Begins, header_size, LawfulTag, tag_bytes, length_bytes}
 
 pub tag_law : (t : ℕ) → LawfulTag t → (r : List ℕ) → tag_of (tag_bytes t ++ r) ≡ Some (t, length (tag_bytes t))
 tag_law t (inl h) r =
@@ -64,15 +64,3 @@ same {xs = xs} {t = t} {u = u} {v = v} {w = w} {r = r} {s = s} b c =
     let n : length v ≡ length w = ap (λ (x : Head). x.len) h in
     let p : v ++ r ≡ w ++ s = sym (begins_past b) ∙ ap (λ (x : Head). drop x.size xs) h ∙ begins_past c in
     (ap (λ (x : Head). x.tag) h, sym (take-append_seam v r) ∙ rw (n, p) (take-append_seam w s), sym (drop-append_seam v r) ∙ rw (n, p) (drop-append_seam w s))
-
--- where no header is read, or it says more than there is, no object begins
-pub unread_none : {xs ys : List ℕ} → ys ≡ xs → None ≡ header_of ys → Unread xs
-unread_none d e t v r b = let h = begins_head (rw (← d) at b) in let z : ◌≡◌ {A = ℕ} 0 1 = cc in omega arith
-
-pub unread_long : {xs ys : List ℕ} (k : Head) → ys ≡ xs → Some k ≡ header_of ys → length ys < k.size + k.len → Unread xs
-unread_long k d e l t v r b =
-    let g = rw (← d) at b in
-    let h = begins_head g in
-    let f : k.size ≡ header_size t v = cc in
-    let n : k.len ≡ length v = cc in
-    omega (arith, (begins_long g).1)

@@ -1,5 +1,5 @@
 -- One object read, over the readers before and after it.
-use Rattle.std.proofs.Common.{◌≡◌, ℕ, ◌+◌, ◌-◌, ◌<◌, ◌≤◌, Bool, true, false, eqb, List, [], length, take, drop, Ok, Err, Result, MatchBool, MatchResult, sym, ap, ◌∙◌, arith, length-drop, true-eqb, false-eqb}
+use Rattle.std.proofs.Common.{◌≡◌, ℕ, ◌+◌, ◌-◌, ◌<◌, ◌≤◌, true, false, List, [], length, take, drop, Ok, Err, Result, MatchResult, sym, ap, ◌∙◌, arith, length-drop}
 use borrow.Author.Tests.{both_ways}
 use Rattle.card.specs.declared.line.Failure.{Failure}
 use Rattle.object.specs.declared.object.Object.{Object}
@@ -48,7 +48,3 @@ to_read a l = omega (arith, length-drop a.position a.bytes.now)
 
 pub all_read : (a : Reader) → length a.bytes.now ≤ a.position → [] ≡ rest_of a
 all_read a l = empty (rest_of a) (omega (arith, length-drop a.position a.bytes.now))
-
-pub done_when : (a : Reader) (b : Bool) → b ≡ eqb a.position (length a.bytes.now) → MatchBool b (rest_of a ≡ []) (0 < length (rest_of a))
-done_when a true e = let h = true-eqb _ _ e in sym (all_read a (omega arith))
-done_when a false e = to_read a (omega (arith, false-eqb _ _ e, a.within))

@@ -19,9 +19,12 @@ pub fn read_length(bytes: &[u8]) -> Option<(usize, usize)>
     ensures written { IfSome result (λ p. bytes.now ≡ length_bytes p.0 ++ drop p.1 bytes.now) }
 {
     match bytes {
-        [short, ..] if *short < 0x80 => Some((*short as usize, 1)),
-        [0x81, low, ..] if *low >= 0x80 => Some((*low as usize, 2)),
-        [0x82, high, low, ..] if *high >= 1 => Some((*high as usize * 256 + *low as usize, 3)),
+        [short, ..] if *short < 0x80 => Some((usize::from(*short), 1)),
+        [0x81, low, ..] if *low >= 0x80 => Some((usize::from(*low), 2)),
+        [0x82, high, low, ..] if *high >= 1 => Some((
+            usize::from(*high) * 256 + usize::from(*low),
+            3,
+        )),
         _ => None,
     }
 }
@@ -35,10 +38,10 @@ fn read_tag(bytes: &[u8]) -> Option<(u16, usize)>
     match bytes {
         [0, ..] => None,
         [first, second, ..] if *first % 32 == 31 && *second < 0x80 => Some((
-            *first as u16 * 256 + *second as u16,
+            u16::from(*first) * 256 + u16::from(*second),
             2,
         )),
-        [first, ..] if *first % 32 != 31 => Some((*first as u16, 1)),
+        [first, ..] if *first % 32 != 31 => Some((u16::from(*first), 1)),
         _ => None,
     }
 }

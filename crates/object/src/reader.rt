@@ -5,6 +5,7 @@ ghost use Rattle.std.specs.Prelude.{◌≡◌, ◌+◌, ◌^◌, ◌<◌, ◌≤
 use crate::header::{Header, read_header};
 use crate::object::{Object, is_nested};
 
+// Copy, and so no `Iterator`: a test is handed a copy, and the caller's reader stays where it is.
 /// A position in a file's bytes.
 #[derive(Clone, Copy)]
 pub struct Reader<'a> {

@@ -16,7 +16,7 @@ use verdict::file_lines;
 /// What an accepted close says.
 #[derive(Clone, Copy, Debug, PartialEq, Eq)]
 pub struct Summary {
-    /// No line fails.
+    /// No line fails. The tally says it too; a close answers both.
     pub clean: bool,
     /// How many lines there are of each kind.
     pub tally: Tally,

@@ -105,9 +105,8 @@ fn changed_card(
     calls.ask(case, 1)?;
     calls.ask(20, 1)?;
     let mut card = Changed::over(Image::over(TD3_CARD));
-    if card.set(1, place, byte).is_ok() {
-        let _ = perform(card, profile, &mut calls.steps);
-    }
+    card.set(1, place, byte)?;
+    let _ = perform(card, profile, &mut calls.steps);
     print_closes(rt, &calls.steps)
 }
 

@@ -1,19 +1,11 @@
 -- Counting over the table is counting over all lines.
-use Rattle.std.proofs.Common.{◌≡◌, ℕ, ◌+◌, ◌≤◌, Bool, true, false, ◌&&◌, eqb, List, [], ◌∷◌, length, get_or, drop, sum_by, sym, refl, ap, ◌∙◌, add-one, arith, drop-cons, rules}
+use Rattle.std.proofs.Common.{◌≡◌, ℕ, ◌+◌, Bool, true, false, ◌&&◌, eqb, List, [], ◌∷◌, length, get_or, drop, sum_by, sym, refl, ap, ◌∙◌, add-one, arith, drop-cons, rules}
 use Rattle.std.proofs.lemmas.List.{drop_all}
 use Rattle.std.proofs.lemmas.List.Sums.{sum_by-cons}
-use Rattle.card.specs.Sheets.{all_lines, count, passing, failing, unapplied, blocked}
+use Rattle.card.specs.Sheets.{all_lines, count}
 use Rattle.card.specs.declared.line.Line.{Line}
-use Rattle.card.specs.declared.line.Line.TheVariants.{Open, Pass, Fail, NotApplicable, Blocked}
+use Rattle.card.specs.declared.line.Line.TheVariants.{Open}
 use Rattle.sheet.specs.Tables.{place, line_in}
-
--- a line is counted once at most
-pub counted_once : (line : Line) → passing line + failing line + unapplied line + blocked line ≤ 1
-counted_once Open = omega arith
-counted_once Pass = omega arith
-counted_once (Fail place) = omega arith
-counted_once NotApplicable = omega arith
-counted_once Blocked = omega arith
 
 -- the lines stand in the table from k on, in this order
 abbrev pub in_order : ℕ → List (ℕ × ℕ) → Bool

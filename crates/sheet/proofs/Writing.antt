@@ -7,7 +7,7 @@ use Rattle.card.specs.Sheets.{HasLine}
 use Rattle.card.specs.declared.line.Line.{Line}
 use Rattle.card.specs.declared.line.Line.TheVariants.{Open}
 use Rattle.sheet.specs.Tables.{place, line_in}
-use Rattle.sheet.proofs.Places.{within, same_place, stands}
+use Rattle.sheet.proofs.Places.{within, same_place}
 
 -- the lines of a file below a case are those given, and all others are as they were
 abbrev pub SetBelow : ℕ → ℕ → List Line → List Line → List Line → Type 0
@@ -18,12 +18,6 @@ tells_apart c f case file ne = ⊎_elim
     (λ (a : c ≡ case). let n : f ≡ file → ⊥ = ne a in grind (arith, nat_tests))
     (λ (a : c ≡ case → ⊥). let b : eqb c case ≡ false = search rules in ap (λ z. z && eqb f file) b)
     (cases_eq c case)
-
-pub set_none : (file : ℕ) (given before : List Line) → SetBelow file 1 given before before
-set_none file given before c f h =
-    let l = (stands c f h).low in
-    let t : (eqb f file && ltb c 1) ≡ false = grind (arith, nat_tests) in
-    sym (ap (λ z. cond z (get_or given (c - 1) Open) (line_in before c f)) t)
 
 -- one line put into the table
 pub put : (case file : ℕ) (line : Line) (table : List Line) → length table ≡ 75 → HasLine case file → (c f : ℕ) → HasLine c f
@@ -40,13 +34,6 @@ put case file line table long there c f h = ⊎_elim
     let t = tells_apart c f case file (λ a b. ne (ap (λ z. place z f) a ∙ ap (place case) b)) in
     get_or-set_other table (place case file) (place c f) line Open ne ∙ sym (ap (λ z. cond z line (line_in table c f)) t))
     (cases_eq (place c f) (place case file))
-
--- no line put into the table
-pub put_none : (case file : ℕ) (line : Line) (table : List Line) → (HasLine case file → ⊥) → (c f : ℕ) → HasLine c f
-    → line_in table c f ≡ cond (eqb c case && eqb f file) line (line_in table c f)
-put_none case file line table none c f h =
-    let t = tells_apart c f case file (λ a b. none (subst (λ z. HasLine z file) a (subst (HasLine c) b h))) in
-    sym (ap (λ z. cond z line (line_in table c f)) t)
 
 -- the line that comes next, and those behind it
 pub taken : (lines : List Line) (k : ℕ) (line : Line) (rest : List Line) → drop k lines ≡ line ∷ rest → (get_or lines k Open ≡ line) × (rest ≡ drop (k + 1) lines)

@@ -6,5 +6,5 @@ pub mod files;
 pub mod sheet;
 pub mod tally;
 
-pub use sheet::Sheet;
+pub use sheet::{LINES, Sheet};
 pub use tally::Tally;

@@ -39,8 +39,10 @@ fn end_of_cases(file: u8) -> u8
 }
 
 /// How many lines there are.
-const LINES: usize = 75;
+pub const LINES: usize = 75;
 
+// A table of fixed size, of which one line is set through `&mut self`: no heap, and every line has its place. A line goes by
+// two plain numbers, its case and its file, as callers and C name it.
 /// The lines, and which files they were judged for.
 #[derive(Drop)]
 pub struct Sheet {

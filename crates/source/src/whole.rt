@@ -67,6 +67,7 @@ pub fn read_whole<S: Source>(
     if buffer.len() < usize::from(LONGEST) {
         return Err(WholeRefusal::ShortBuffer);
     }
+    // Grows by what each read brought: at most 255 bytes, so the cast keeps the count.
     let mut have: u16 = 0;
     while have < LONGEST {
         let wanted = usize::from(LONGEST - have).min(MOST_WANTED);

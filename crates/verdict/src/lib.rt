@@ -6,14 +6,8 @@ ghost use Rattle.std.specs.Option.{option_map};
 ghost use Rattle.card.specs.declared.line.Line.TheVariants.{Open};
 ghost use Rattle.verdict.specs.Verdicts.{AreFileLines, by_case, structure_of};
 
-use card::{EF_COM, EF_SOD, Line, Profile};
+use card::{DG1, DG2, EF_COM, EF_SOD, Line, Profile};
 use cases::{Structure, judge_common, judge_faces, judge_security, judge_structure, judge_zone};
-
-/// DG1, with the machine readable zone.
-const DG1: u8 = 1;
-
-/// DG2, with the faces.
-const DG2: u8 = 2;
 
 /// A line for each case, of which the first is case 1; open at the cases that a file does not have.
 pub type ByCase = [Line; 24];
@@ -22,6 +16,7 @@ pub type ByCase = [Line; 24];
 pub fn file_lines(file: u8, content: Option<&[u8]>, profile: Profile) -> Option<ByCase>
     ensures { MatchOption result (17 < file) (λ row. (file ≤ 17) × AreFileLines profile.kind profile.declared file (option_map (λ x. x.now) content.entry) (by_case row)) }
 {
+    // A match, since each judge answers lines of a type of its own.
     match file {
         EF_COM => {
             let common = judge_common(content, profile);

@@ -23,7 +23,7 @@ pub struct Cover {
 pub struct Places {
     /// How many characters the zone has.
     pub len: usize,
-    /// Whether the code is that of a passport.
+    /// Whether the code is that of a passport: a yes or no, as a row of the layouts' table has it.
     pub passport: bool,
     pub code: Span,
     pub issuer: Span,

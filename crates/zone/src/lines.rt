@@ -59,6 +59,7 @@ pub fn zone_lines(reader: Reader<'_>, profile: Profile) -> ZoneLines
     }
 }
 
+// Once more by the kind: above it chooses a type, here a constant, and no value stands for both.
 /// Cases 9 to 20 where one of the cases 1 to 3 failed.
 pub fn blocked_lines(profile: Profile) -> ZoneLines
     ensures { result ≡ blocked_zone_lines (layout_of profile.kind) }

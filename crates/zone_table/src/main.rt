@@ -6,13 +6,15 @@ use card::{Line, Profile};
 use cases::judge_zone;
 use zone::ZoneLines;
 
-/// DG1 with a printed specimen zone, for each layout.
+/// DG1 with the printed zone of TD1.
 const TD1: &[u8; 95] = b"\x61\x5d\x5f\x1f\x5a\
     I<UTOD231458907<<<<<<<<<<<<<<<7408122F1204159UTO<<<<<<<<<<<6ERIKSSON<<ANNA<MARIA<<<<<<<<<<";
 
+/// DG1 with the printed zone of TD2.
 const TD2: &[u8; 77] = b"\x61\x4b\x5f\x1f\x48\
     I<UTOERIKSSON<<ANNA<MARIA<<<<<<<<<<<D231458907UTO7408122F1204159<<<<<<<6";
 
+/// DG1 with the printed zone of TD3.
 const TD3: &[u8; 93] = b"\x61\x5b\x5f\x1f\x58\
     P<UTOERIKSSON<<ANNA<MARIA<<<<<<<<<<<<<<<<<<<L898902C36UTO7408122F1204159ZE184226B<<<<<10";
 
@@ -37,6 +39,7 @@ fn change_each(rt: &HostRuntime, kind: u8, file: &[u8]) -> anyhow::Result<()> {
     let profile = Profile::new(kind, 0x0003)?;
     print!(rt; "TD{kind} as printed:")?;
     print_failures(rt, judge_zone(Some(file), profile).own)?;
+    // By the index: the row names it, and the character there is replaced.
     for index in ZONE..file.len() {
         for character in CHARACTERS {
             let mut changed = file.to_vec(rt.alloc())?;

@@ -4,9 +4,9 @@ use Rattle.std.specs.Vec.{with_items}
 use Rattle.source.specs.Whole.{Ready}
 use Rattle.run.specs.Calls.{JudgeReads}
 use Rattle.run.specs.Histories.{Judging}
-use Rattle.run.specs.Keeping.{moment_of, Kept}
+use Rattle.run.specs.Keeping.{moment_of}
 use Rattle.run.specs.Steps.{SameCall, buffer}
-use Rattle.run.specs.declared.promise.Step.TheVariants.{Judge, Ask, Close}
+use Rattle.run.specs.declared.promise.Step.TheVariants.{Judge}
 use Rattle.run.proofs.promise.make.Goals as goal
 
 pub returns-in-Judge : goal.returns-in-Judge
@@ -32,28 +32,4 @@ returns-in-Judge g c =
       same = subst (λ z. SameCall z (Judge file (with_items c.in-Judge.buffer after) (Some answer))) (sym c.in-Judge.is) refl;
       moves = subst (λ z. Judging files from file z (vec_items (with_items c.in-Judge.buffer after)) answer to) was (subst (λ z. Judging files from file before z answer to) (sym filled) law.1);
       handles = subst (λ z. (run.closed ≡ false → Ready file z → JudgeReads m.outcomes file run.source answer run'.source) × ((run.closed ≡ false → Ready file z → ⊥) → run'.source ≡ run.source)) was (e.reads, e.still);
-    }
-
-pub returns-in-Ask : goal.returns-in-Ask
-returns-in-Ask g c = record {
-  files = refl;
-  profile = refl;
-  kept = c.requires;
-  same = subst (λ z. SameCall z (Ask c.in-Ask.case c.in-Ask.file (Some c.ask.result))) (sym c.in-Ask.is) (refl, refl);
-  moves = (c.ask.ensures.lawful c.requires, refl);
-  handles = refl;
-}
-
-pub returns-in-Close : goal.returns-in-Close
-returns-in-Close g c =
-    let m = g.S.Source in
-    let run = c.args.run.now in
-    let e = c.close.ensures in
-    record {
-      files = ap m.files e.same.0;
-      profile = e.same.1;
-      kept = subst (Kept (m.files run.source) run.profile) (sym e.same.2) c.requires;
-      same = subst (λ z. SameCall z (Close (Some c.close.result))) (sym c.in-Close.is) tt;
-      moves = e.lawful c.requires;
-      handles = e.same.0;
     }

@@ -3,16 +3,8 @@ use Rattle.run.specs.Histories.{Moves, Runs, new_run}
 use Rattle.run.specs.Keeping.{moment_of, Kept}
 use Rattle.run.specs.Steps.{event, history, SameCalls}
 use Rattle.run.proofs.Closing.{close_means}
-use Rattle.run.proofs.Keeping.{kept_blank, new_blank}
 use Rattle.run.proofs.Turns.{rest_more, same_turn, runs_turn, runs_lead}
 use Rattle.run.proofs.promise.perform.Goals as goal
-
-pub loop-step-init : goal.loop-step-init
-loop-step-init g c =
-    let o = c.open-run.ensures in
-    let run = c.open-run.result in
-    let m = g.S.Source in
-    (omega arith, refl, refl, refl, kept_blank (m.files run.source) run.profile run.sheet o.blank, refl, tt, (new_blank run.sheet run.closed (m.lost run.source) o.blank o.parts.2, refl))
 
 pub loop-step-preserved : goal.loop-step-preserved
 loop-step-preserved g c =

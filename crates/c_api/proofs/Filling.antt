@@ -1,5 +1,5 @@
 -- Filling an array with the numbers of lines, one after the other.
-use Rattle.std.proofs.Common.{◌≡◌, ℕ, ◌+◌, ◌<◌, ◌≤◌, cond, ◌≢◌, List, length, get_or, set, sym, refl, ap, ◌∙◌, subst, ⊎_elim, arith, length-set, get_or-set_other, get_or-set_same, below_more, eq-eqb, ne_eqb}
+use Rattle.std.proofs.Common.{◌≡◌, ℕ, ◌+◌, ◌<◌, ◌≤◌, cond, List, length, get_or, sym, ap, ◌∙◌, subst, ⊎_elim, arith, eq-eqb, ne_eqb}
 use Rattle.std.proofs.lemmas.Bool.{cases_eq}
 use Rattle.card.specs.Cards.{Files}
 use Rattle.card.specs.Sheets.{HasLine, CardLines}
@@ -17,24 +17,6 @@ pub record FilledTo (number : Line → ℕ) (table : List Line) (count : ℕ) (b
   pub long : length after ≡ length before
   pub each : (k : ℕ) → k < count → get_or after k 0 ≡ number (get_or table k Open)
   pub behind : (k : ℕ) → 75 ≤ k → get_or after k 0 ≡ get_or before k 0
-
-pub filled_none : (number : Line → ℕ) (table : List Line) (before : List ℕ) → FilledTo number table 0 before before
-filled_none number table before = record { long = refl; each = λ k h. absurd (omega arith); behind = λ k h. refl }
-
-pub filled_more : (number : Line → ℕ) (table : List Line) (i value : ℕ) (before after : List ℕ) → i < 75 → 75 ≤ length before → value ≡ number (get_or table i Open)
-    → FilledTo number table i before after → FilledTo number table (i + 1) before (set after i value)
-filled_more number table i value before after h room e f =
-    let long = f.long in
-    record {
-      long = simp length-set long;
-      each = below_more _ _
-          (λ k l. let ne : k ≢ i = omega arith in get_or-set_other after i k value 0 ne ∙ f.each k l)
-          (get_or-set_same after i value 0 (omega arith) ∙ e);
-      behind = λ k l. let ne : k ≢ i = omega arith in get_or-set_other after i k value 0 ne ∙ f.behind k l;
-    }
-
-pub filled_all : (number : Line → ℕ) (table : List Line) (before after : List ℕ) → FilledTo number table 75 before after → Each number table before after
-filled_all number table before after f = record { each = f.each; behind = f.behind }
 
 -- by case and file
 pub by_place : (number : Line → ℕ) (table : List Line) (lines : CardLines) (before after : List ℕ) → ((case file : ℕ) → HasLine case file → line_in table case file ≡ lines case file)

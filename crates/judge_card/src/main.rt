@@ -26,6 +26,8 @@ fn run(rt: &HostRuntime) -> anyhow::Result<()> {
     judge_damaged(rt, &mut buffer)
 }
 
+// The functions below take the runtime and a lent buffer: a struct of both would be taken apart in each.
+
 /// Judges every file of a card that declares DG1 and DG2, over a chip that answers a few bytes at a time.
 fn judge_card(rt: &HostRuntime, kind: u8, bytes: &[u8], buffer: &mut [u8]) -> anyhow::Result<()> {
     let profile = Profile::new(kind, 0x0003)?;

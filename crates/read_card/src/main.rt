@@ -67,6 +67,8 @@ fn check_image(rt: &HostRuntime, bytes: &[u8]) -> anyhow::Result<()> {
     Ok(())
 }
 
+// The functions below take the runtime and a lent buffer: a struct of both would be taken apart in each.
+
 /// Reads every file over a chip that gives a few bytes at a time, and compares it with the image.
 fn read_over_chip(rt: &HostRuntime, buffer: &mut [u8]) -> anyhow::Result<()> {
     let image = Image::over(TD3_CARD);

@@ -52,17 +52,19 @@ accepted files profile m m' (closing (Some (Ok answer)) ∷ events) summary l a 
     (λ (e : answer ≡ summary). subst (λ s. Counted files profile s.tally × (s.clean ≡ eqb s.tally.fail 0)) e (l.1.0.2, l.1.0.3))
     (λ b. accepted files profile l.0 m' events summary l.1.1 b) a
 
-pub close_means : (files : Files) (profile : Profile) (m m' : Moment) (events : List Event) (summary : Summary) → AllShort files
-    → Leads files profile m events m' → Accepted summary events → CloseMeans files profile summary
-close_means files profile m m' events summary short l a =
-    let k = accepted files profile m m' events summary l a in
-    let c = k.0 in
+pub means : (files : Files) (profile : Profile) (summary : Summary) → AllShort files → Counted files profile summary.tally → summary.clean ≡ eqb summary.tally.fail 0
+    → CloseMeans files profile summary
+means files profile summary short c says =
     let law = laws.clean_exactly_when_written profile.kind profile.declared profile.lawful profile.sixteen_bits files short c.lines c.given in
     record {
-      clean_exactly_when_written = (λ t. law.0 (none_fails files profile summary c k.1 t), λ u. says_clean files profile summary c k.1 (law.1 u));
+      clean_exactly_when_written = (λ t. law.0 (none_fails files profile summary c says t), λ u. says_clean files profile summary c says (law.1 u));
       counts_of_the_cases = c;
       written_by_one_record_only = λ r other. laws.written_by_one_record_only r other files;
       changed_digit_never_closes_clean = λ r changed w d other lost lost' later h answer b t.
           let q = accepted changed other _ h.last later answer h.leads b in
           laws.changed_digit_is_never_clean r files changed w d other.kind other.declared other.lawful q.0.lines q.0.given (none_fails changed other answer q.0 q.1 t);
     }
+
+pub close_means : (files : Files) (profile : Profile) (m m' : Moment) (events : List Event) (summary : Summary) → AllShort files
+    → Leads files profile m events m' → Accepted summary events → CloseMeans files profile summary
+close_means files profile m m' events summary short l a = let k = accepted files profile m m' events summary l a in means files profile summary short k.0 k.1

@@ -34,5 +34,7 @@ pub record Promise {S : Type 0} (lost : S → Bool) (outcomes : S → ℕ → �
   -- no call was refused or went through otherwise than the rules say, each byte of each buffer is what they say, and the
   -- source was read as they say and not otherwise
   pub lawful_throughout : LawfulRun lost outcomes files profile source (history before after) source'
+  -- told of the link alone, this is a lawful history, and the last moment's link is that of the source handed back
+  pub lawful_history : LawfulHistory files profile (lost source) (history before after) (lost source')
   -- wherever a close was accepted
   pub every_close : (summary : Summary) → Accepted summary (history before after) → CloseMeans files profile summary

@@ -1,8 +1,9 @@
 //! A run over one source and one profile.
-ghost use Rattle.std.specs.Prelude.{◌≡◌, true, false};
+ghost use Rattle.std.specs.Prelude.{◌≡◌, true, false, IfOk};
 ghost use Rattle.sheet.specs.Sheets.{Blank};
 ghost use Rattle.source.specs.Whole.{Ready};
-ghost use Rattle.run.specs.Histories.{Judging, Asking, Closing};
+ghost use Rattle.run.specs.Histories.{new_run, Judging, Asking, Closing};
+ghost use Rattle.run.specs.Promise.{CloseMeans};
 ghost use Rattle.run.specs.Keeping.{moment_of, Kept};
 ghost use Rattle.run.specs.Calls.{Judges, JudgeReads, Asks, Closes};
 
@@ -44,6 +45,7 @@ impl<S: Source> Run<S> {
         ensures parts { (result.source ≡ source) × (result.profile ≡ profile) × (result.closed ≡ false) }
         ensures blank { Blank result.sheet }
         ensures kept { Kept (S.files source) profile result.sheet }
+        ensures new { moment_of result.sheet result.closed (S.lost result.source) ≡ new_run (S.lost source) }
     {
         Run {
             source,
@@ -88,6 +90,7 @@ impl<S: Source> Run<S> {
         ensures same { (self.new.source ≡ self.old.source) × (self.new.profile ≡ self.old.profile) × (self.new.sheet ≡ self.old.sheet) }
         ensures closes { Closes self.old.sheet self.old.closed self.new.closed result }
         ensures lawful { Kept (S.files self.old.source) self.old.profile self.old.sheet → Closing (S.files self.old.source) self.old.profile (moment_of self.old.sheet self.old.closed (S.lost self.old.source)) result (moment_of self.new.sheet self.new.closed (S.lost self.new.source)) }
+        ensures means { Kept (S.files self.old.source) self.old.profile self.old.sheet → IfOk result (CloseMeans (S.files self.old.source) self.old.profile) }
     {
         if self.closed {
             return Err(CloseRefusal::Closed);

@@ -63,6 +63,7 @@ returns g c =
       promise = record {
         same_calls = same;
         lawful_throughout = record { last = last; runs = runs };
+        lawful_history = record { last = last; leads = leads; lost_at_last = ap m.lost (sym back) };
         every_close = λ summary a. close_means (m.files source) c.args.profile _ last (history xs ys) summary (λ file _. g.S.Source.bounded source file) leads a;
       };
     }

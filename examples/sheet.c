@@ -31,16 +31,16 @@ int main(int argc, char **argv) {
     size_t size = fread(image, 1, sizeof image, input);
     fclose(input);
 
-    uint8_t states[SUHLUVA_LINES];
-    uint64_t places[SUHLUVA_LINES];
-    struct suhluva_counts counts;
     uint64_t position = 0;
-    uint32_t refusal = suhluva_sheet((uint8_t)strtoul(argv[1], NULL, 10), (uint16_t)strtoul(argv[2], NULL, 16), image, size,
-                                     states, SUHLUVA_LINES, places, SUHLUVA_LINES, &counts, &position);
-    if (refusal == 8) {
+    if (suhluva_check_image(image, size, &position) != 0) {
         printf("refusal 8 at %" PRIu64 "\n", position);
         return 1;
     }
+    uint8_t states[SUHLUVA_LINES];
+    uint64_t places[SUHLUVA_LINES];
+    struct suhluva_counts counts;
+    uint32_t refusal = suhluva_sheet((uint8_t)strtoul(argv[1], NULL, 10), (uint16_t)strtoul(argv[2], NULL, 16), image, size,
+                                     states, SUHLUVA_LINES, places, SUHLUVA_LINES, &counts, &position);
     if (refusal != 0) {
         printf("refusal %" PRIu32 "\n", refusal);
         return 1;

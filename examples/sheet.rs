@@ -15,6 +15,8 @@ struct Counts {
 
 // As in include/suhluva.h; each slice is handed over as a pointer and a length.
 unsafe extern "C" {
+    fn suhluva_check_image(image: *const u8, image_len: usize, position: *mut u64) -> u32;
+
     fn suhluva_sheet(
         kind: u8,
         declared: u16,
@@ -33,6 +35,11 @@ unsafe extern "C" {
 fn sheet(kind: u8, declared: u16, image: &[u8]) -> Result<([(u8, u64); LINES], Counts), (u32, u64)> {
     let (mut states, mut places) = ([0; LINES], [0; LINES]);
     let (mut counts, mut position) = (Counts::default(), 0);
+    // SAFETY: the pointer and the length are those of a slice that lives through the call.
+    let refusal = unsafe { suhluva_check_image(image.as_ptr(), image.len(), &mut position) };
+    if refusal != 0 {
+        return Err((refusal, position));
+    }
     // SAFETY: each pointer and length are those of a slice that lives through the call, and no two overlap.
     let refusal = unsafe {
         suhluva_sheet(

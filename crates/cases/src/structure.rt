@@ -61,6 +61,7 @@ pub(crate) fn find_file(content: Option<&[u8]>, required: bool) -> Result<&[u8],
     }
 }
 
+// Public calls take any number of a file; that it is none above 17 is asked here and where it is passed on.
 /// A reader at the template's value, if cases 1 to 3 pass; else their lines.
 pub(crate) fn open_file(
     file: u8,

@@ -8,6 +8,7 @@ use crate::object::Object;
 use crate::reader::Reader;
 use card::Failure;
 
+// Beside `read_objects`, which its like calls: this one also says that no other trees write the bytes.
 /// Whether objects tile what the reader has to read, on at most so many levels; else the smallest place at which an object is broken.
 pub fn tile(reader: Reader<'_>, levels: u8) -> Result<(), Failure>
     ensures { MatchResult result (λ _. TiledOnce levels (rest_of reader.entry)) (λ failure. NowhereTiled levels reader.entry.position (rest_of reader.entry) failure.place) }

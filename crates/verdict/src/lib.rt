@@ -1,8 +1,9 @@
 //! The lines of any file, by the numbers of their cases.
 #![tactic(auto)]
 
-ghost use Rattle.std.specs.Prelude.{◌≡◌, ℕ, ◌+◌, ◌<◌, ◌≤◌, length, MatchOption, slice_index_or};
+ghost use Rattle.std.specs.Prelude.{◌≡◌, ℕ, ◌+◌, ◌<◌, ◌≤◌, length, IfSome, MatchOption, slice_index_or};
 ghost use Rattle.std.specs.Option.{option_map};
+ghost use Rattle.card.specs.Sheets.{HasLine};
 ghost use Rattle.card.specs.declared.line.Line.TheVariants.{Open};
 ghost use Rattle.verdict.specs.Verdicts.{AreFileLines, by_case, structure_of};
 
@@ -14,7 +15,8 @@ pub type ByCase = [Line; 24];
 
 /// The lines of a file by case; `None` exactly if there is no file of this number.
 pub fn file_lines(file: u8, content: Option<&[u8]>, profile: Profile) -> Option<ByCase>
-    ensures { MatchOption result (17 < file) (λ row. (file ≤ 17) × AreFileLines profile.kind profile.declared file (option_map (λ x. x.now) content.entry) (by_case row)) }
+    ensures lines { MatchOption result (17 < file) (λ row. (file ≤ 17) × AreFileLines profile.kind profile.declared file (option_map (λ x. x.now) content.entry) (by_case row)) }
+    ensures open { IfSome result (λ row. (case : ℕ) → 1 ≤ case → (HasLine case file → ⊥) → by_case row case ≡ Open) }
 {
     // A match, since each judge answers lines of a type of its own.
     match file {
@@ -45,6 +47,7 @@ pub fn file_lines(file: u8, content: Option<&[u8]>, profile: Profile) -> Option<
 fn row_of(structure: Structure, first: usize, own: &[Line]) -> ByCase
     requires { (4 ≤ first) × (first + length own.now ≤ 25) }
     ensures structure { structure_of (by_case result) ≡ structure }
+    ensures open { (case : ℕ) → 4 ≤ case → (first ≤ case → case < first + length own.now → ⊥) → by_case result case ≡ Open }
     ensures own { (k : ℕ) → k < length own.now → by_case result (first + k) ≡ slice_index_or own.now k Open }
 {
     let mut row = [Line::Open; 24];

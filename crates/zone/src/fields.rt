@@ -7,6 +7,7 @@ ghost use Rattle.zone.specs.Fields.{ZoneCharacters, FirstOther, Code, State, Rig
 use crate::layout::{Cover, Span};
 use text::{check_digit, composite_digit, is_date};
 
+// The bound of one slice: a struct of the zone and a span that has it would be this slice under another name.
 /// The characters of a span.
 pub(crate) fn cut(zone: &[u8], span: Span) -> &[u8]
     requires { Within (length zone.now) span }

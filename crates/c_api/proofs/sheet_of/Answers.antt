@@ -6,7 +6,7 @@ use Rattle.c_api.proofs.sheet_of.Goals as goal
 
 pub loop-file-preserved : goal.loop-file-preserved
 loop-file-preserved c =
-    let v = c.in-Some.ensures in
+    let v = c.in-Some.ensures.lines in
     let kind = c.args.profile.kind in
     let declared = c.args.profile.declared in
     let file = c.loop-file.file in

@@ -5,11 +5,10 @@ use Rattle.card.specs.Cards.{Files}
 use Rattle.card.specs.Sheets.{HasLine, CardLines}
 use Rattle.card.specs.declared.line.Line.{Line}
 use Rattle.card.specs.declared.line.Line.TheVariants.{Open}
-use Rattle.sheet.specs.Sheets.{Written}
 use Rattle.sheet.specs.Tables.{place, line_in}
 use Rattle.sheet.specs.declared.sheet.Sheet.{Sheet}
 use Rattle.sheet.proofs.Places.{within}
-use Rattle.verdict.specs.Verdicts.{AreFileLines, HoldsVerdict, by_case}
+use Rattle.verdict.specs.Verdicts.{AreFileLines, Judged, HoldsVerdict}
 use Rattle.c_api.specs.Door.{Each, Filled}
 
 -- the first so many lines have their numbers, and what stands behind the 75 is as it was
@@ -27,19 +26,18 @@ by_place number table lines before after same e = record {
 }
 
 -- one file more on the sheet
-pub holds_more : (kind declared file : ℕ) (files : Files) (row : List Line) (sheet sheet' : Sheet) → Written file row sheet sheet'
-    → AreFileLines kind declared file (files file) (by_case row)
+pub holds_more : (kind declared file : ℕ) (files : Files) (sheet sheet' : Sheet) → Judged kind declared file (files file) sheet sheet'
     → ((f : ℕ) → f < file → HoldsVerdict kind declared f (files f) (λ case. line_in sheet.lines case f))
     → (f : ℕ) → f < file + 1 → HoldsVerdict kind declared f (files f) (λ case. line_in sheet'.lines case f)
-holds_more kind declared file files row sheet sheet' w given before f l = ⊎_elim
+holds_more kind declared file files sheet sheet' judged before f l = ⊎_elim
     (λ (e : f ≡ file). record {
-      lines = by_case row;
-      given = subst (λ n. AreFileLines kind declared n (files n) (by_case row)) (sym e) given;
-      same = λ case h. w.lines case f h ∙ ap (λ z. cond z (by_case row case) (line_in sheet.lines case f)) (eq-eqb f file e);
+      lines = judged.lines;
+      given = subst (λ n. AreFileLines kind declared n (files n) judged.lines) (sym e) judged.given;
+      same = λ case h. judged.written.each case f h ∙ ap (λ z. cond z (judged.lines case) (line_in sheet.lines case f)) (eq-eqb f file e);
     })
     (λ (n : f ≡ file → ⊥). let v = before f (omega arith) in record {
       lines = v.lines;
       given = v.given;
-      same = λ case h. w.lines case f h ∙ ap (λ z. cond z (by_case row case) (line_in sheet.lines case f)) (ne_eqb f file n) ∙ v.same case h;
+      same = λ case h. judged.written.each case f h ∙ ap (λ z. cond z (judged.lines case) (line_in sheet.lines case f)) (ne_eqb f file n) ∙ v.same case h;
     })
     (cases_eq f file)

@@ -2,7 +2,7 @@
 #![tactic(auto)]
 
 ghost use Rattle.std.specs.Prelude.{◌≡◌, ℕ, ◌<◌, ◌≤◌, length};
-ghost use Rattle.image.specs.Images.{files_in};
+ghost use Rattle.image.specs.Checks.{files_at};
 ghost use Rattle.sheet.specs.Tables.{line_in};
 ghost use Rattle.verdict.specs.Verdicts.{HoldsVerdict};
 ghost use Rattle.card.specs.Refusals.{valued};
@@ -10,9 +10,9 @@ ghost use Rattle.image.specs.Numbers.{of_image};
 ghost use Rattle.c_api.specs.Door.{state_of, place_of, SameCounts, Checks, Makes, Each};
 
 use card::{EF_SOD, Line, Numbered, Profile};
-use image::{Image, ImageRefusal};
+use image::{Files, Image, ImageRefusal, files_of};
 use sheet::{LINES, Sheet, Tally};
-use verdict::file_lines;
+use verdict::write_verdict;
 
 /// The refusal of an array that has no room for the lines.
 const NO_ROOM: u32 = 3;
@@ -75,11 +75,12 @@ pub extern "C" fn suhluva_sheet(
     if states.len() < LINES || places.len() < LINES {
         return NO_ROOM;
     }
-    let image = match Image::check(image) {
-        Ok(image) => image,
+    let files = match files_of(image) {
+        Ok(files) => files,
         Err(refusal) => return report(refusal, position),
     };
-    let sheet = sheet_of(image, profile);
+    let mut sheet = Sheet::new();
+    judge_all(&files, profile, &mut sheet);
     write_lines(sheet.lines(), states, places);
     *counts = sheet.tally().into();
     0
@@ -95,18 +96,13 @@ fn report(refusal: ImageRefusal, position: &mut u64) -> u32
     u32::from(refusal.number())
 }
 
-/// The sheet of an image's files.
-fn sheet_of(image: Image<'_>, profile: Profile) -> Sheet
-    ensures { (file : ℕ) → file ≤ 17 → HoldsVerdict profile.kind profile.declared file (files_in image.entry.row.now file) (λ case. line_in result.lines case file) }
+/// Judges all files, and writes their lines into the sheet.
+fn judge_all(files: &Files<'_>, profile: Profile, sheet: &mut Sheet)
+    ensures { (file : ℕ) → file ≤ 17 → HoldsVerdict profile.kind profile.declared file (files_at files.now.by_number file) (λ case. line_in sheet.new.lines case file) }
 {
-    let mut sheet = Sheet::new();
     for file in 0..=EF_SOD {
-        let Some(lines) = file_lines(file, image.file(file), profile) else {
-            unreachable()
-        };
-        sheet.write(file, &lines);
+        write_verdict(sheet, file, files.get(file), profile);
     }
-    sheet
 }
 
 // By the index, over the two arrays that C hands over: what is written through an adapter of `iter_mut` is not known afterwards.

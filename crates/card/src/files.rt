@@ -19,8 +19,11 @@ pub const EF_SOD: u8 = 17;
 /// How many bytes a file has at most.
 pub const LONGEST: u16 = 32767;
 
+/// How many files a card has at most.
+pub const FILES: usize = 18;
+
 /// The template tag of each file, in the order of the file numbers.
-pub const TEMPLATE_TAGS: [u8; 18] = [
+pub const TEMPLATE_TAGS: [u8; FILES] = [
     0x60, 0x61, 0x75, 0x63, 0x76, 0x65, 0x66, 0x67, 0x68, 0x69, 0x6a, 0x6b, 0x6c, 0x6d, 0x6e, 0x6f,
     0x70, 0x77,
 ];

@@ -8,7 +8,7 @@ pub mod line;
 pub mod profile;
 pub mod refusal;
 
-pub use files::{DG1, DG2, EF_COM, EF_SOD, LONGEST, TEMPLATE_TAGS, template_tag};
+pub use files::{DG1, DG2, EF_COM, EF_SOD, FILES, LONGEST, TEMPLATE_TAGS, template_tag};
 pub use line::{Failure, Line};
 pub use profile::{Kind, Profile};
 pub use refusal::{Numbered, ProfileRefusal};

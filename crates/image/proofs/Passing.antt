@@ -1,15 +1,17 @@
 -- Going through a row, field by field: what has been passed, and where it ends or breaks.
-use Rattle.std.proofs.Common.{◌≡◌, ℕ, Bool, ◌+◌, ◌-◌, ◌<◌, ◌≤◌, true, false, cond, eqb, List, [], ◌∷◌, length, Some, None, Ok, Err, Option, Result, sym, ap, ◌∙◌, subst, inl, inr, arith, length-append, rules}
+use Rattle.std.proofs.Common.{◌≡◌, ℕ, Bool, ◌+◌, ◌-◌, ◌<◌, ◌≤◌, true, false, cond, eqb, List, [], ◌∷◌, length, get_or, set, Some, None, Ok, Err, Option, Result, sym, refl, ap, ◌∙◌, subst, inl, inr, ⊎_elim, arith, length-append, length-set, get_or-set_other, rules}
 use denote.Param.Members.{Mut}
 use denote.Ref.{Bor}
+use Rattle.std.proofs.lemmas.Bool.{cases_eq}
+use Rattle.std.proofs.lemmas.Grind.{get_or-set_at}
 use Rattle.std.proofs.lemmas.List.{nil_from_length}
 use Rattle.std.specs.Fn.{CalledAt}
 use Rattle.std.specs.Iterator.{Yields, FindsItem}
 use Rattle.std.specs.List.{FoldsTo}
-use Rattle.std.specs.Option.{option_map}
+use Rattle.std.specs.Option.{option_map, option_or}
 use Rattle.std.specs.Result.{result_unwrap_or}
 use Rattle.image.specs.Images.{Field, field, written, Lawful, Rising, IsImage, Breaks, here, later, file_of, files_in}
-use Rattle.image.specs.Checks.{Starts, ImageOf, BrokenAt, Checks, StandsFor}
+use Rattle.image.specs.Checks.{Starts, ImageOf, BrokenAt, Checks, files_at, StandsFor}
 use Rattle.image.specs.declared.image.StoredField.{StoredField}
 use Rattle.image.specs.declared.image.Fields.{Fields}
 use Rattle.image.specs.declared.image.Image.{Image}
@@ -52,7 +54,7 @@ out_of_order bytes rest next lowest k bs p e n =
 pub unread : (bytes rest next : List ℕ) (lowest : ℕ) → Passed bytes rest lowest → Starts rest None next → 0 < length rest → BrokenAt bytes (length bytes - length rest)
 unread bytes rest next lowest p s h = broken bytes (length bytes - length rest) (p.breaks _ (here h (λ k bs more w e. s.1 k bs more w.short e)))
 
-image_of : (bytes : List ℕ) (fs : List Field) → IsImage bytes fs → ImageOf bytes (files_in bytes)
+pub image_of : (bytes : List ℕ) (fs : List Field) → IsImage bytes fs → ImageOf bytes (files_in bytes)
 image_of bytes fs i =
     let has : (k : ℕ) → files_in bytes k ≡ file_of fs k = λ k. ap (λ xs. files_in xs k) (sym i.writes) ∙ files_of_written 0 fs i.lawful k in
     record {
@@ -101,3 +103,43 @@ module _ {P : Type 0} {g : Mut P (Bor StoredField × Unit {0}) Bool} {p : P} (j 
       let before = none_before ran.0 s ran.2.0 ran.1 ran.2.1 ran.3 in
       let hit = subst (λ z. CalledAt g z x true ran.4.0) (sym before.1) ran.4.1 in
       sym (before.0 ∙ found x.number j x.content.now u.row.now ran.2.0.row.now ran.2.2.0 ran.2.2.1 (hits x ran.4.0 hit))
+
+-- a table in which each file of a row stands or is still to come, and which is free from a number on
+pub record Gathered (row rest : List ℕ) (lowest : ℕ) (table : List (Option (Bor (List ℕ)))) : Type 0 where
+  pub long : length table ≡ 18
+  pub each : (j : ℕ) → option_or (files_at table j) (files_in rest j) ≡ files_in row j
+  pub free : (j : ℕ) → lowest ≤ j → get_or table j None ≡ None
+
+-- one field more
+pub gather : (row rest next : List ℕ) (lowest k : ℕ) (table : List (Option (Bor (List ℕ)))) (content : Bor (List ℕ)) → Gathered row rest lowest table → Lawful lowest k content.now
+    → field k content.now next ≡ rest → Gathered row next (k + 1) (set table k (Some content))
+gather row rest next lowest k table content g w e = record {
+  long = length-set table k (Some content) ∙ g.long;
+  each = λ j. ⊎_elim
+      (λ (s : j ≡ k).
+      ap (λ z. option_or (option_map (λ x. x.now) z) (files_in next j)) (get_or-set_at table k j (Some content) None s (omega (arith, g.long, w.card)))
+      ∙ sym (found k j content.now next rest w.short e (sym s))
+      ∙ ap (λ z. option_or (option_map (λ x. x.now) z) (files_in rest j)) (sym (g.free j (omega (arith, w.rises)))) ∙ g.each j)
+      (λ (n : j ≡ k → ⊥).
+      ap (λ z. option_or (option_map (λ x. x.now) z) (files_in next j)) (get_or-set_other table k j (Some content) None n)
+      ∙ ap (option_or (files_at table j)) (sym (passed_by k j content.now next rest w.short e (λ s. n (sym s)))) ∙ g.each j)
+      (cases_eq j k);
+  free = λ j l. get_or-set_other table k j (Some content) None (λ s. omega arith) ∙ g.free j (omega (arith, w.rises));
+}
+
+-- all fields of an image
+pub gathered : (bytes rest : List ℕ) (lowest : ℕ) (table : List (Option (Bor (List ℕ)))) → Gathered bytes rest lowest table → length rest ≤ 0 → ImageOf bytes (files_in bytes)
+    → ImageOf bytes (files_at table)
+gathered bytes rest lowest table g h image =
+    let same : (j : ℕ) → files_at table j ≡ files_in bytes j = λ j. alone (files_at table j) ∙ ap (option_or (files_at table j)) (sym ((too_few rest [] (omega arith)).0 j)) ∙ g.each j in
+    record {
+      fields = image.fields;
+      is_image = image.is_image;
+      no_others = image.no_others;
+      has_files = λ j. same j ∙ image.has_files j;
+      same_bytes = λ other gs i e. image.same_bytes other gs i (λ j. e j ∙ same j);
+    }
+  where
+    alone : (held : Option (List ℕ)) → held ≡ option_or held None
+    alone None = refl
+    alone (Some x) = refl

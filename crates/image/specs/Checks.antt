@@ -1,5 +1,7 @@
 -- What checking bytes promises: which files they have as an image, or where they break.
-use Rattle.std.specs.Prelude.{◌≡◌, ℕ, ◌≤◌, ◌⊎◌, List, length, Some, None, Ok, Err, Option, Result, ◌≢◌}
+use Rattle.std.specs.Prelude.{◌≡◌, ℕ, ◌≤◌, ◌⊎◌, List, length, Some, None, Ok, Err, Option, Result, ◌≢◌, slice_index_or}
+use Rattle.std.specs.Borrow.{Bor}
+use Rattle.std.specs.Option.{option_map}
 use Rattle.card.specs.Cards.{Files}
 use Rattle.card.specs.Refusals.{Under, no_other}
 use Rattle.image.specs.Images.{Field, field, files_in, file_of, IsImage, Breaks}
@@ -23,9 +25,17 @@ pub record BrokenAt (bytes : List ℕ) (place : ℕ) : Type 0 where
   pub nowhere_else : (other : ℕ) → Breaks 0 0 bytes other → other ≡ place
   pub no_image : (fs : List Field) → IsImage bytes fs → ⊥
 
+-- bytes that break are refused with 8 and the place
+abbrev pub Refuses : List ℕ → ImageRefusal → Type 0
+Refuses bytes refusal = Under 8 (BrokenAt bytes) no_other (of_image refusal)
+
 abbrev pub Checks : List ℕ → Result Image ImageRefusal → Type 0
 Checks bytes (Ok image) = ImageOf bytes (files_in image.row.now)
-Checks bytes (Err refusal) = Under 8 (BrokenAt bytes) no_other (of_image refusal)
+Checks bytes (Err refusal) = Refuses bytes refusal
+
+-- the files in a table by their numbers
+abbrev pub files_at : List (Option (Bor (List ℕ))) → Files
+files_at table number = option_map (λ x. x.now) (slice_index_or table number None)
 
 -- bytes that break somewhere stand for a card without files
 pub record WithoutFiles (bytes : List ℕ) (files : Files) : Type 0 where

@@ -1,14 +1,14 @@
 //! The image: a card's files in memory, as a row of fields: a file's number, its length in two bytes, and the file.
 //! The link to them is never lost.
-ghost use Rattle.std.specs.Prelude.{◌≡◌, ◌<◌, ◌≤◌, false, length};
+ghost use Rattle.std.specs.Prelude.{◌≡◌, ◌<◌, ◌≤◌, false, length, MatchResult};
 ghost use Rattle.std.specs.Option.{option_map};
 ghost use Rattle.std.specs.Iterator.{at_most};
 ghost use Rattle.image.specs.Images.{files_in, files_short};
-ghost use Rattle.image.specs.Checks.{Starts, Checks, StandsFor};
+ghost use Rattle.image.specs.Checks.{Starts, ImageOf, files_at, Refuses, Checks, StandsFor};
 ghost use Rattle.image.specs.Counts.{Copies, Fully, AnswersFully, answer_of, Tells};
 ghost use Rattle.image.specs.Numbers.{of_image};
 
-use card::{EF_SOD, LONGEST, Numbered};
+use card::{EF_SOD, FILES, LONGEST, Numbered};
 use source::{Fault, Source, well_formed};
 use std::error::Error;
 use std::fmt;
@@ -95,20 +95,46 @@ impl<'a> TryFrom<&'a [u8]> for Image<'a> {
     ghost try_from_gives = { λ bytes result. Checks bytes.now result };
 
     fn try_from(bytes: &'a [u8]) -> Result<Image<'a>, ImageRefusal> {
-        let mut position = 0;
-        let mut lowest = 0;
-        for field in (Fields { row: bytes }) {
-            if field.number < lowest || field.number > EF_SOD {
-                return Err(ImageRefusal::Malformed { position });
-            }
-            lowest = field.number + 1;
-            position += HEADER + field.content.len();
-        }
-        if position < bytes.len() {
-            return Err(ImageRefusal::Malformed { position });
-        }
+        files_of(bytes)?;
         Ok(Image { row: bytes })
     }
+}
+
+/// The files of a card by their numbers.
+#[derive(Clone, Copy)]
+pub struct Files<'a> {
+    by_number: [Option<&'a [u8]>; FILES],
+    ghost all: { length by_number ≡ 18 },
+}
+
+impl<'a> Files<'a> {
+    /// A file, if it is there.
+    pub fn get(&self, file: u8) -> Option<&'a [u8]>
+        ensures { option_map (λ x. x.now) result ≡ files_at self.now.by_number file }
+    {
+        *self.by_number.get(usize::from(file))?
+    }
+}
+
+/// The files of the image that the bytes are, or where the first field that breaks starts; in one pass over the fields.
+pub fn files_of(bytes: &[u8]) -> Result<Files<'_>, ImageRefusal>
+    ensures { MatchResult result (λ files. ImageOf bytes.now (files_at files.by_number)) (λ refusal. Refuses bytes.now refusal) }
+{
+    let mut by_number = [None; FILES];
+    let mut position = 0;
+    let mut lowest = 0;
+    for field in (Fields { row: bytes }) {
+        if field.number < lowest || field.number > EF_SOD {
+            return Err(ImageRefusal::Malformed { position });
+        }
+        by_number[usize::from(field.number)] = Some(field.content);
+        lowest = field.number + 1;
+        position += HEADER + field.content.len();
+    }
+    if position < bytes.len() {
+        return Err(ImageRefusal::Malformed { position });
+    }
+    Ok(Files { by_number })
 }
 
 impl<'a> Image<'a> {

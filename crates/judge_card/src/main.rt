@@ -1,13 +1,14 @@
 //! Judges sample cards: reads each file over a chip, judges it, and prints the lines of its cases.
 #![tactic(auto)]
 
-use card::{DG1, DG2, EF_SOD, LONGEST, Line, Profile};
+use card::{DG1, DG2, EF_SOD, LONGEST, Profile};
 use cases::worked_rows;
 use changed::Changed;
 use image::{Chip, Image};
 use samples::{OLD_FACE_CARD, TD1_CARD, TD2_CARD, TD3_CARD};
+use sheet::Sheet;
 use source::{Source, read_whole};
-use verdict::file_lines;
+use verdict::write_verdict;
 
 /// The highest case.
 const LAST_CASE: u8 = 24;
@@ -71,19 +72,19 @@ fn judge_file<S: Source>(
     }
 }
 
-/// Judges a file and prints the lines of the cases that it has.
+/// Judges a file onto a sheet and prints the lines of the cases that it has.
 fn print_lines(
     rt: &HostRuntime,
     file: u8,
     content: Option<&[u8]>,
     profile: Profile,
 ) -> anyhow::Result<()> {
+    let mut sheet = Sheet::new();
+    write_verdict(&mut sheet, file, content, profile);
     print!(rt; "  file {file}:")?;
-    if let Some(row) = file_lines(file, content, profile) {
-        for (case, line) in (1..=LAST_CASE).zip(row) {
-            if line != Line::Open {
-                print!(rt; " {case} {line};")?;
-            }
+    for case in 1..=LAST_CASE {
+        if let Some(line) = sheet.line(case, file) {
+            print!(rt; " {case} {line};")?;
         }
     }
     println!(rt; "")?;

@@ -1,9 +1,9 @@
 -- Reading what was written gives it back.
-use Rattle.std.proofs.Common.{◌≡◌, ℕ, ◌+◌, ◌*◌, ◌/◌, ◌%◌, ◌<◌, ◌≤◌, true, false, cond, ltb, List, [], ◌∷◌, ◌++◌, length, drop, Some, Option, sym, refl, ap, ◌∙◌, inl, inr, arith, length-append, le-ltb, lt-ltb, eq-eqb, ne_eqb, le-leb}
+use Rattle.std.proofs.Common.{◌≡◌, ℕ, ◌+◌, ◌*◌, ◌/◌, ◌%◌, ◌<◌, ◌≤◌, true, false, cond, ltb, List, [], ◌∷◌, ◌++◌, length, get_or, drop, ◌==◌, Some, Option, sym, refl, ap, ◌∙◌, inl, inr, arith, length-append, le-ltb, lt-ltb, eq-eqb, ne_eqb, le-leb}
 use lib.Seq.{drop-append_seam, take-append_seam, drop-append-add}
 use native.Mathlib.Decide.{dec_lt}
 use Rattle.object.specs.Reading.{Head, header_of, tag_of, length_of, tagged, sized}
-use Rattle.object.specs.Objects.{Begins, header_size, LawfulTag, tag_bytes, length_bytes}
+use Rattle.object.specs.Objects.{Begins, header_size, nests, LawfulTag, tag_bytes, length_bytes}
 
 pub tag_law : (t : ℕ) → LawfulTag t → (r : List ℕ) → tag_of (tag_bytes t ++ r) ≡ Some (t, length (tag_bytes t))
 tag_law t (inl h) r =
@@ -29,6 +29,12 @@ head_law t n lt ln r =
     ap (tagged (tag_bytes t ++ (length_bytes n ++ r))) (tag_law t lt (length_bytes n ++ r)) ∙
     ap (λ ys. sized (t, length (tag_bytes t)) (length_of ys)) (drop-append_seam (tag_bytes t) (length_bytes n ++ r)) ∙
     ap (sized (t, length (tag_bytes t))) (len_law n ln r)
+
+-- the first byte of what begins with a tag says whether the tag is a nested object's
+pub nests_first : (t : ℕ) {xs : List ℕ} (r : List ℕ) → xs ≡ tag_bytes t ++ r → (get_or xs 0 0 / 32 % 2 == 1) ≡ nests t
+unfolding nests
+nests_first t r e =
+    rw e (elim (ltb t 256) as (λ b. (get_or (cond {A = List ℕ} b (t ∷ []) (t / 256 ∷ t % 256 ∷ []) ++ r) 0 0 / 32 % 2 == 1) ≡ (cond b t (t / 256) / 32 % 2 == 1)) [ true ↦ refl | false ↦ refl ])
 
 past_two : (a b c : List ℕ) → drop (length a + length b) (a ++ (b ++ c)) ≡ c
 past_two a b c = drop-append-add a (b ++ c) (length b) ∙ drop-append_seam b c

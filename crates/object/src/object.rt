@@ -1,6 +1,5 @@
 //! An object, plain or nested. Its value is a part of the file; the value's place in the file goes with it.
 ghost use Rattle.std.specs.Prelude.{◌≡◌};
-ghost use Rattle.object.specs.Objects.{nests};
 ghost use Rattle.object.specs.Readers.{tag, place, value};
 
 /// An object of a file.
@@ -22,6 +21,7 @@ pub enum Object<'a> {
 
 impl<'a> Object<'a> {
     /// Its tag.
+    #[inline(always)]
     pub fn tag(self) -> u16
         ensures { result ≡ tag self.entry }
     {
@@ -31,6 +31,7 @@ impl<'a> Object<'a> {
     }
 
     /// The place of its value's first byte in the file.
+    #[inline(always)]
     pub fn place(self) -> usize
         ensures { result ≡ place self.entry }
     {
@@ -40,6 +41,7 @@ impl<'a> Object<'a> {
     }
 
     /// Its value.
+    #[inline(always)]
     pub fn value(self) -> &'a [u8]
         ensures { result.now ≡ value self.entry }
     {
@@ -47,12 +49,4 @@ impl<'a> Object<'a> {
             Object::Plain { value, .. } | Object::Nested { value, .. } => value,
         }
     }
-}
-
-/// Whether an object of this tag is nested: the bit 20 (hexadecimal) of its first byte.
-pub(crate) fn is_nested(tag: u16) -> bool
-    ensures { result ≡ nests tag }
-{
-    let first = if tag < 256 { tag } else { tag / 256 };
-    first / 32 % 2 == 1
 }

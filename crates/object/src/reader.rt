@@ -3,7 +3,7 @@
 ghost use Rattle.std.specs.Prelude.{◌≡◌, ◌+◌, ◌^◌, ◌<◌, ◌≤◌, [], length, MatchBool, MatchOption};
 
 use crate::header::{Header, read_header};
-use crate::object::{Object, is_nested};
+use crate::object::Object;
 
 // Copy, and so no `Iterator`: a test is handed a copy, and the caller's reader stays where it is.
 /// A position in a file's bytes.
@@ -26,6 +26,7 @@ impl<'a> Reader<'a> {
     ghost use Rattle.object.specs.Readers.{rest_of, Taken, Stuck, Took, Missed};
 
     /// A reader over all of the bytes, from their start.
+    #[inline(always)]
     pub fn new(bytes: &'a [u8]) -> Reader<'a>
         ensures bytes { result.bytes.now ≡ bytes.now }
         ensures position { result.position ≡ 0 }
@@ -34,20 +35,26 @@ impl<'a> Reader<'a> {
     }
 
     /// The next object, if its header can be read and it ends within the range; the position is then past it.
+    #[inline(always)]
     pub fn next(&mut self) -> Option<Object<'a>>
         ensures { MatchOption result (Stuck self.old self.new) (λ o. Taken self.old self.new o) }
     {
         let start = self.position;
         let (_, rest) = self.bytes.split_at(start);
-        let Header { tag, length, size } = read_header(rest)?;
-        if size + length > rest.len() {
-            return None;
-        }
+        let Header {
+            tag,
+            is_nested,
+            length,
+            size,
+        } = read_header(rest)?;
         let place = start + size;
         let end = place + length;
+        if end > self.bytes.len() {
+            return None;
+        }
         let value = &self.bytes[place..end];
         self.position = end;
-        if is_nested(tag) {
+        if is_nested {
             Some(Object::Nested { tag, place, value })
         } else {
             Some(Object::Plain { tag, place, value })
@@ -55,6 +62,7 @@ impl<'a> Reader<'a> {
     }
 
     /// The value of the next object, if it has this tag; the position is then past it, and else where it was.
+    #[inline(always)]
     pub fn take(&mut self, tag: u16) -> Option<Value<'a>>
         ensures { MatchOption result (Missed self.old self.new tag) (λ v. Took self.old self.new tag v.bytes.now × (v.place + length v.bytes.now ≡ self.new.position)) }
     {
@@ -71,6 +79,7 @@ impl<'a> Reader<'a> {
     }
 
     /// Whether all of the range was read.
+    #[inline(always)]
     pub fn is_done(&self) -> bool
         ensures { MatchBool result (rest_of self.now ≡ []) (0 < length (rest_of self.now)) }
     {

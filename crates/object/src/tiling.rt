@@ -1,6 +1,6 @@
 //! Whether objects tile a range at every level, in one walk through the bytes and without memory of its own.
 //! An object and a list of objects are read by two functions that call each other; the remaining levels fall.
-ghost use Rattle.std.specs.Prelude.{◌<◌, length, MatchResult};
+ghost use Rattle.std.specs.Prelude.{◌<◌, ◌≤◌, length, drop, MatchResult};
 ghost use Rattle.object.specs.Trees.{Tiled, TiledOnce, First, NowhereTiled};
 ghost use Rattle.object.specs.Readers.{rest_of, Step};
 
@@ -13,7 +13,7 @@ use card::Failure;
 pub fn tile(reader: Reader<'_>, levels: u8) -> Result<(), Failure>
     ensures { MatchResult result (λ _. TiledOnce levels (rest_of reader.entry)) (λ failure. NowhereTiled levels reader.entry.position (rest_of reader.entry) failure.place) }
 {
-    read_objects(reader, levels)
+    read_objects(reader.bytes, reader.position, levels)
 }
 
 /// Reads one object with all that is in it, on at most so many levels.
@@ -35,22 +35,18 @@ fn read_object(reader: &mut Reader<'_>, levels: u8) -> Result<(), Failure>
         Object::Plain { .. } => Ok(()),
         Object::Nested { place, value, .. } => {
             let (range, _) = reader.bytes.split_at(place + value.len());
-            read_objects(
-                Reader {
-                    bytes: range,
-                    position: place,
-                },
-                levels - 1,
-            )
+            read_objects(range, place, levels - 1)
         }
     }
 }
 
-/// Reads the objects of a range with all that is in them, on at most so many levels.
+/// Reads the objects of a range, from the position on, with all that is in them, on at most so many levels.
 #[cycle(read_object_read_objects)]
-fn read_objects(mut reader: Reader<'_>, levels: u8) -> Result<(), Failure>
-    ensures { MatchResult result (λ _. Tiled levels (rest_of reader.entry)) (λ failure. First levels reader.entry.position (rest_of reader.entry) failure.place) }
+fn read_objects(bytes: &[u8], position: usize, levels: u8) -> Result<(), Failure>
+    requires { position ≤ length bytes.now }
+    ensures { MatchResult result (λ _. Tiled levels (drop position bytes.now)) (λ failure. First levels position (drop position bytes.now) failure.place) }
 {
+    let mut reader = Reader { bytes, position };
     while reader.position < reader.bytes.len() {
         read_object(&mut reader, levels)?;
     }

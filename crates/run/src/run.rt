@@ -12,7 +12,7 @@ use card::{Line, Profile};
 use sheet::{Sheet, Tally};
 use source::{Source, read_whole};
 use std::fmt;
-use verdict::file_lines;
+use verdict::write_verdict;
 
 /// What an accepted close says.
 #[derive(Clone, Copy, Debug, PartialEq, Eq)]
@@ -70,10 +70,7 @@ impl<S: Source> Run<S> {
         }
         let count = read_whole(&mut self.source, file, buffer)?;
         let content = count.map(|count| &buffer[..count]);
-        let Some(lines) = file_lines(file, content, self.profile) else {
-            unreachable()
-        };
-        self.sheet.write(file, &lines);
+        write_verdict(&mut self.sheet, file, content, self.profile);
         Ok(())
     }
 

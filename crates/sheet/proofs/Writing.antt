@@ -1,71 +1,93 @@
--- Setting the lines of a file one after the other.
-use Rattle.std.proofs.Common.{◌≡◌, ℕ, zero, suc, ◌+◌, ◌-◌, ◌<◌, true, false, cond, ◌&&◌, eqb, ltb, List, [], ◌∷◌, length, drop, get_or, set, sym, ap, ◌∙◌, subst, ⊎_elim, arith, get_or-set_other, get_or-set_same, rules}
-use Rattle.std.proofs.Math.Seq.{drop-nil}
-use Rattle.std.proofs.lemmas.Bool.{cases_eq}
-use Rattle.std.proofs.lemmas.Bool.Decides.{nat_tests}
+-- Putting the lines of a file into the table: those of the cases that every file has, and those of the file's own cases.
+use Rattle.std.proofs.Common.{◌≡◌, ℕ, ◌+◌, ◌-◌, ◌*◌, ◌<◌, ◌≤◌, min, true, false, cond, eqb, leb, List, length, take, get_or, ap, ◌∙◌, sym, subst, ⊎_elim, arith, eq-eqb, ne_eqb, rules}
+use Rattle.std.proofs.lemmas.Bool.{cases_eq, cases_lt}
+use Rattle.std.proofs.lemmas.Grind.{common_steps}
+use Rattle.std.proofs.lemmas.List.{get_or-take, get_or_default, get_or_past}
 use Rattle.card.specs.Sheets.{HasLine}
 use Rattle.card.specs.declared.line.Line.{Line}
 use Rattle.card.specs.declared.line.Line.TheVariants.{Open}
-use Rattle.sheet.specs.Tables.{place, line_in}
-use Rattle.sheet.proofs.Places.{within, same_place}
+use Rattle.sheet.specs.Tables.{place, line_in, Put, lines_of, first_own, OwnCases}
+use Rattle.sheet.proofs.Places.{stands}
 
--- the lines of a file below a case are those given, and all others are as they were
-abbrev pub SetBelow : ℕ → ℕ → List Line → List Line → List Line → Type 0
-SetBelow file case given before table = (c f : ℕ) → HasLine c f → line_in table c f ≡ cond (eqb f file && ltb c case) (get_or given (c - 1) Open) (line_in before c f)
+-- The lines of a file are given by case, and `before` is the table as it was.
+module _ (file : ℕ) (lines : ℕ → Line) (before : List Line) where
+  -- what the lines of the file are then, and those of others
+  abbrev Set : List Line → Type 0
+  Set table = (c f : ℕ) → HasLine c f → line_in table c f ≡ cond (eqb f file) (lines c) (line_in before c f)
 
-tells_apart : (c f case file : ℕ) → (c ≡ case → f ≡ file → ⊥) → (eqb c case && eqb f file) ≡ false
-tells_apart c f case file ne = ⊎_elim
-    (λ (a : c ≡ case). let n : f ≡ file → ⊥ = ne a in grind (arith, nat_tests))
-    (λ (a : c ≡ case → ⊥). let b : eqb c case ≡ false = search rules in ap (λ z. z && eqb f file) b)
-    (cases_eq c case)
+  set_from : (table : List Line) → ((c : ℕ) → HasLine c file → line_in table c file ≡ lines c) → ((c f : ℕ) → HasLine c f → (f ≡ file → ⊥) → line_in table c f ≡ line_in before c f) → Set table
+  set_from table here elsewhere c f h = ⊎_elim
+      (λ (e : f ≡ file). ap (line_in table c) e ∙ here c (subst (HasLine c) e h) ∙ sym (ap (λ z. cond z (lines c) (line_in before c f)) (eq-eqb f file e)))
+      (λ (n : f ≡ file → ⊥). elsewhere c f h n ∙ sym (ap (λ z. cond z (lines c) (line_in before c f)) (ne_eqb f file n)))
+      (cases_eq f file)
 
--- one line put into the table
-pub put : (case file : ℕ) (line : Line) (table : List Line) → length table ≡ 75 → HasLine case file → (c f : ℕ) → HasLine c f
-    → line_in (set table (place case file) line) c f ≡ cond (eqb c case && eqb f file) line (line_in table c f)
-put case file line table long there c f h = ⊎_elim
-    (λ (q : place c f ≡ place case file).
-    let s = same_place c f case file h there q in
-    let s₀ = s.0 in
-    let s₁ = s.1 in
-    let t : (eqb c case && eqb f file) ≡ true = grind (arith, nat_tests) in
-    ap (λ z. get_or (set table (place case file) line) z Open) q ∙ get_or-set_same table (place case file) line Open (omega (arith, within case file there))
-    ∙ sym (ap (λ z. cond z line (line_in table c f)) t))
-    (λ (ne : place c f ≡ place case file → ⊥).
-    let t = tells_apart c f case file (λ a b. ne (ap (λ z. place z f) a ∙ ap (place case) b)) in
-    get_or-set_other table (place case file) (place c f) line Open ne ∙ sym (ap (λ z. cond z line (line_in table c f)) t))
-    (cases_eq (place c f) (place case file))
+module _ (file : ℕ) (given own before : List Line) (card : file ≤ 17) (three : length given ≡ 3) where
+  abbrev lines : ℕ → Line
+  lines = lines_of file given own (λ c. line_in before c file)
 
--- the line that comes next, and those behind it
-pub taken : (lines : List Line) (k : ℕ) (line : Line) (rest : List Line) → drop k lines ≡ line ∷ rest → (get_or lines k Open ≡ line) × (rest ≡ drop (k + 1) lines)
-taken [] k line rest e = absurd (let n : 0 ≡ length (line ∷ rest) = ap length (sym (drop-nil k) ∙ e) in omega arith)
-taken (first ∷ lines) zero line rest e = (ap (λ z. get_or z 0 line) e, sym (ap (drop 1) e))
-taken (first ∷ lines) (suc k) line rest e = let t = taken lines k line rest e in (t.0, t.1 ∙ ap (λ n. drop n (first ∷ lines)) (let m : suc (k + 1) ≡ suc k + 1 = omega arith in m))
+  -- the table with the lines of the cases that every file has
+  module _ (shared : List Line) (put : Put (3 * file) given before shared) where
+    shared_left : (c f : ℕ) → HasLine c f → (c ≤ 3 → f ≡ file → ⊥) → line_in shared c f ≡ line_in before c f
+    shared_left c f h n =
+        let s = stands c f h in
+        put.elsewhere (place c f)
+        (λ l m. ⊎_elim
+        (λ (k : c < 4). n (omega arith) (omega (arith, s.shared (omega arith), s.low, three)))
+        (λ (k : 4 ≤ c). omega (arith, (s.own k).0, three))
+        (cases_lt c 4))
 
--- one case further
-pub set_more : (file case : ℕ) (given before table table' : List Line) → SetBelow file case given before table
-    → ((c f : ℕ) → HasLine c f → line_in table' c f ≡ cond (eqb c case && eqb f file) (get_or given (case - 1) Open) (line_in table c f))
-    → SetBelow file (case + 1) given before table'
-set_more file case given before table table' held put c f h = put c f h ∙ ⊎_elim
-    (λ (e : c ≡ case).
-    let t : (eqb c case && eqb f file) ≡ eqb f file = grind (arith, nat_tests) in
-    let u : (eqb f file && ltb c (case + 1)) ≡ eqb f file = grind (arith, nat_tests) in
-    let w : (eqb f file && ltb c case) ≡ false = grind (arith, nat_tests) in
-    ap (λ z. cond z (get_or given (case - 1) Open) (line_in table c f)) t
-    ∙ ap (λ z. cond (eqb f file) (get_or given (case - 1) Open) z) (held c f h ∙ ap (λ z. cond z (get_or given (c - 1) Open) (line_in before c f)) w)
-    ∙ ap (λ z. cond (eqb f file) (get_or given (z - 1) Open) (line_in before c f)) (sym e)
-    ∙ sym (ap (λ z. cond z (get_or given (c - 1) Open) (line_in before c f)) u))
-    (λ (ne : c ≡ case → ⊥).
-    let t : (eqb c case && eqb f file) ≡ false = tells_apart c f case file (λ a _. ne a) in
-    let u : (eqb f file && ltb c case) ≡ (eqb f file && ltb c (case + 1)) = grind (arith, nat_tests) in
-    ap (λ z. cond z (get_or given (case - 1) Open) (line_in table c f)) t ∙ held c f h
-    ∙ ap (λ z. cond z (get_or given (c - 1) Open) (line_in before c f)) u)
-    (cases_eq c case)
+    shared_set : (c : ℕ) → HasLine c file → c ≤ 3 → line_in shared c file ≡ lines c
+    shared_set c h l =
+        let s = stands c file h in
+        let p : place c file ≡ 3 * file + (c - 1) = omega (arith, s.shared l, s.low) in
+        let t : leb c 3 ≡ true = search rules in
+        ap (λ i. get_or shared i Open) p ∙ put.there (c - 1) (omega (arith, three, s.low))
+        ∙ sym (ap (λ z. cond z (get_or given (c - 1) Open) (get_or own (c - first_own file) (line_in before c file))) t)
 
-pub set_all : (file end : ℕ) (given before table : List Line) (c f : ℕ) → ((case : ℕ) → HasLine case file → case < end) → SetBelow file end given before table → HasLine c f
-    → line_in table c f ≡ cond (eqb f file) (get_or given (c - 1) Open) (line_in before c f)
-set_all file end given before table c f none held h =
-    let t : (eqb f file && ltb c end) ≡ eqb f file = ⊎_elim
-    (λ (e : f ≡ file). let l : c < end = none c (subst (HasLine c) e h) in grind (arith, nat_tests))
-    (λ (n : f ≡ file → ⊥). let b : eqb f file ≡ false = search rules in ap (λ z. z && ltb c end) b ∙ sym b)
-    (cases_eq f file) in
-    held c f h ∙ ap (λ z. cond z (get_or given (c - 1) Open) (line_in before c f)) t
+    -- a file without cases of its own
+    pub set_shared : ((case : ℕ) → 4 ≤ case → HasLine case file → ⊥) → Set file lines before shared
+    set_shared none = set_from file lines before shared
+        (λ c h. shared_set c h (⊎_elim (λ (m : c < 4). omega arith) (λ (m : 4 ≤ c). absurd (none c m h)) (cases_lt c 4)))
+        (λ c f h n. shared_left c f h (λ _. n))
+
+    -- and then with as many of the file's own as are given and have a place
+    module _ (first behind : ℕ) (cases : OwnCases file first behind) where
+      abbrev own_lines : List Line
+      own_lines = take (min (length own) (behind - first)) own
+
+      many : length own_lines ≡ min (length own) (behind - first)
+      many = grind (arith, common_steps)
+
+      module _ (table : List Line) (put_own : Put (50 + first) own_lines shared table) where
+        own_left : (c f : ℕ) → HasLine c f → (4 ≤ c → f ≡ file → ⊥) → line_in table c f ≡ line_in shared c f
+        own_left c f h n =
+            let s = stands c f h in
+            put_own.elsewhere (place c f)
+            (λ l m. ⊎_elim
+            (λ (k : c < 4). omega (arith, s.shared (omega arith), s.card, cases.low))
+            (λ (k : 4 ≤ c).
+            let o = s.own k in
+            let t = stands c file (cases.each c (omega (arith, o.0)) (omega (arith, o.0, many, cases.rising))) in
+            n k (o.1 ∙ sym (t.own k).1))
+            (cases_lt c 4))
+
+        own_set : (c : ℕ) → HasLine c file → 4 ≤ c → line_in table c file ≡ lines c
+        own_set c h k =
+            let o = cases.no_other c k h in
+            let p : place c file ≡ 50 + first + (c - first) = omega (arith, ((stands c file h).own k).0, o.0) in
+            let t : leb c 3 ≡ false = search rules in
+            let put_there : line_in table c file ≡ get_or own (c - first) (line_in before c file) = ⊎_elim
+            (λ (l : c - first < length own).
+            ap (λ i. get_or table i Open) p ∙ put_own.there (c - first) (omega (arith, many, o.0, o.1))
+            ∙ get_or-take (min (length own) (behind - first)) own (c - first) Open (omega (arith, o.0, o.1))
+            ∙ get_or_default own (c - first) Open (line_in before c file) l)
+            (λ (l : length own ≤ c - first).
+            put_own.elsewhere (place c file) (λ _ m. omega (arith, many, p))
+            ∙ shared_left c file h (λ q _. omega arith) ∙ sym (get_or_past own (c - first) (line_in before c file) l))
+            (cases_lt (c - first) (length own)) in
+            put_there ∙ ap (λ i. get_or own (c - i) (line_in before c file)) cases.from ∙ sym (ap (λ z. cond z (get_or given (c - 1) Open) (get_or own (c - first_own file) (line_in before c file))) t)
+
+        pub set_own : Set file lines before table
+        set_own = set_from file lines before table
+            (λ c h. ⊎_elim (λ (m : c < 4). own_left c file h (λ q _. omega arith) ∙ shared_set c h (omega arith)) (own_set c h) (cases_lt c 4))
+            (λ c f h n. own_left c f h (λ _. n) ∙ shared_left c f h (λ _. n))

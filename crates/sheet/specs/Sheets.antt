@@ -1,5 +1,5 @@
 -- What the calls of a sheet do to it.
-use Rattle.std.specs.Prelude.{◌≡◌, ℕ, ◌-◌, ◌<◌, ◌≤◌, true, false, cond, ◌||◌, List, ◌==◌, slice_index_or}
+use Rattle.std.specs.Prelude.{◌≡◌, ℕ, ◌<◌, ◌≤◌, true, false, cond, ◌||◌, ◌==◌}
 use Rattle.card.specs.Sets.{has}
 use Rattle.card.specs.Sheets.{HasLine, CardLines, count, passing, failing, unapplied, blocked}
 use Rattle.card.specs.declared.line.Line.{Line}
@@ -14,11 +14,11 @@ pub record Blank (sheet : Sheet) : Type 0 where
   pub lines : (case file : ℕ) → HasLine case file → line_in sheet.lines case file ≡ Open
   pub judged : (file : ℕ) → has sheet.judged.bits file ≡ false
 
--- the lines of one file are those given, by case, and the file counts as judged; all else is as it was
-pub record Written (given : ℕ) (by_case : List Line) (sheet sheet' : Sheet) : Type 0 where
-  pub lines : (case file : ℕ) → HasLine case file
-      → line_in sheet'.lines case file ≡ cond (file == given) (slice_index_or by_case (case - 1) Open) (line_in sheet.lines case file)
-  pub judged : (file : ℕ) → has sheet'.judged.bits file ≡ (file == given || has sheet.judged.bits file)
+-- The lines of one file are these, by case, and the file counts as judged; all other lines are as they were, and no other file
+-- counts as judged for it.
+pub record Written (file : ℕ) (lines : ℕ → Line) (sheet sheet' : Sheet) : Type 0 where
+  pub each : (case other : ℕ) → HasLine case other → line_in sheet'.lines case other ≡ cond (other == file) (lines case) (line_in sheet.lines case other)
+  pub judged : (other : ℕ) → has sheet'.judged.bits other ≡ (other == file || has sheet.judged.bits other)
 
 -- every file of a card is in the set
 abbrev pub Complete : FileSet → Type 0

@@ -1,17 +1,12 @@
 //! The sheet: the lines of a file are set together, and a line is looked up by its case and file.
-ghost use Rattle.std.specs.Prelude.{◌≡◌, ℕ, ◌<◌, ◌≤◌, ◌&&◌, length, if◌then◌else◌, MatchOption, ◌==◌, nat_eq};
+ghost use Rattle.std.specs.Prelude.{◌≡◌, ℕ, ◌+◌, ◌<◌, ◌≤◌, length, MatchOption};
 ghost use Rattle.card.specs.Sheets.{HasLine};
-ghost use Rattle.sheet.specs.Tables.{place, line_in};
+ghost use Rattle.sheet.specs.Tables.{place, line_in, Put, lines_of, OwnCases};
 
 use crate::files::FileSet;
 use crate::tally::{Tally, tally_of};
 use card::{EF_SOD, Line};
-
-/// All cases that every file has are below this.
-const SHARED_END: u8 = 4;
-
-/// All cases are below this.
-const END: u8 = 25;
+use std::ops::Range;
 
 /// Where the line of a case and a file stands in the table, if there is one.
 fn index(case: u8, file: u8) -> Option<usize>
@@ -27,19 +22,24 @@ fn index(case: u8, file: u8) -> Option<usize>
     }
 }
 
-/// All cases of a file are below this.
-fn end_of_cases(file: u8) -> u8
-    ensures within { (1 ≤ result) × (result ≤ 25) }
-    ensures end { (case : ℕ) → HasLine case file → case < result }
+/// The cases that one file alone has; `None` exactly if this file has none.
+fn own_cases(file: u8) -> Option<Range<usize>>
+    ensures { MatchOption result ((case : ℕ) → 4 ≤ case → HasLine case file → ⊥) (λ own. OwnCases file own.start own.end) }
 {
     match file {
-        0..=2 | 17 => END,
-        _ => SHARED_END,
+        0 => Some(4..9),
+        1 => Some(9..21),
+        2 => Some(21..24),
+        17 => Some(24..25),
+        _ => None,
     }
 }
 
 /// How many lines there are.
 pub const LINES: usize = 75;
+
+/// How many cases every file has: 1 to 3.
+const SHARED: usize = 3;
 
 // A table of fixed size, of which one line is set through `&mut self`: no heap, and every line has its place. A line goes by
 // two plain numbers, its case and its file, as callers and C name it.
@@ -64,27 +64,33 @@ impl Sheet {
         }
     }
 
-    /// Sets all lines of a file, of which the first given is that of case 1; the file then counts as judged. A number above 17 changes nothing.
-    pub fn write(&mut self, file: u8, by_case: &[Line; 24])
-        ensures sets { file ≤ 17 → Written file by_case.now self.old self.new }
+    /// Sets the lines of a file: those of the cases 1 to 3, and those of its own cases in order; it then counts as judged.
+    /// An own case for which no line is given keeps its line, and lines for which there is no case are ignored. A number
+    /// above 17 changes nothing.
+    pub fn write(&mut self, file: u8, shared: &[Line; 3], own: &[Line])
+        ensures sets { file ≤ 17 → Written file (lines_of file shared.now own.now (λ case. line_in self.old.lines case file)) self.old self.new }
         ensures still { 17 < file → self.new ≡ self.old }
     {
         if file > EF_SOD {
             return;
         }
-        for (case, line) in (1..end_of_cases(file)).zip(by_case) {
-            self.set(case, file, *line);
+        self.put(SHARED * usize::from(file), shared);
+        if let Some(Range { start, end }) = own_cases(file) {
+            let count = own.len().min(end - start);
+            self.put(50 + start, &own[..count]);
         }
         self.judged.insert(file);
     }
 
-    /// Sets one line, if there is such a line.
-    fn set(&mut self, case: u8, file: u8, line: Line)
-        ensures lines { (c f : ℕ) → HasLine c f → line_in self.new.lines c f ≡ (if nat_eq c case && f == file then line else line_in self.old.lines c f) }
+    // By the index and not as a copied slice: the lines are built right before, and go to their places one by one.
+    /// Puts lines into the table, from a place on.
+    fn put(&mut self, at: usize, lines: &[Line])
+        requires { at + length lines.now ≤ 75 }
+        ensures lines { Put at lines.now self.old.lines self.new.lines }
         ensures judged { self.new.judged ≡ self.old.judged }
     {
-        if let Some(i) = index(case, file) {
-            self.lines[i] = line;
+        for (i, line) in lines.iter().enumerate() {
+            self.lines[at + i] = *line;
         }
     }
 

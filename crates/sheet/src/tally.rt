@@ -23,13 +23,10 @@ impl Tally {
         ensures unapplied { self.new.not_applicable ≡ self.old.not_applicable + unapplied line }
         ensures blocked { self.new.blocked ≡ self.old.blocked + blocked line }
     {
-        match line {
-            Line::Open => {}
-            Line::Pass => self.pass += 1,
-            Line::Fail { .. } => self.fail += 1,
-            Line::NotApplicable => self.not_applicable += 1,
-            Line::Blocked => self.blocked += 1,
-        }
+        self.pass += u8::from(matches!(line, Line::Pass));
+        self.fail += u8::from(matches!(line, Line::Fail { .. }));
+        self.not_applicable += u8::from(matches!(line, Line::NotApplicable));
+        self.blocked += u8::from(matches!(line, Line::Blocked));
     }
 }
 

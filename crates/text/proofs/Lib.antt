@@ -1,3 +1,4 @@
 pub mod Weights
 mod Turns
+mod Values
 mod Pairs

@@ -1,19 +1,19 @@
--- Pairs of fillers: those after the first, and those that stand before the last letter.
-use Rattle.std.proofs.Common.{◌≡◌, ℕ, ◌+◌, ◌-◌, ◌≤◌, Bool, Option, Some, None, List, length, Decides, MatchOption, not, get_or, take, drop, sym, ap, ◌∙◌, ⊎_elim, arith, length-drop}
-use Rattle.std.proofs.lemmas.List.{get_or-take, get_or-drop, length-take-le}
-use Rattle.std.proofs.lemmas.Bool.{cases_eq, true≢false, not-false}
-use Rattle.std.specs.Option.{is_some}
-use Rattle.text.specs.Names.{Pair, OnePair, FirstPair, LetterAt, LastLetter, Name}
+-- Pairs of fillers: those before a letter, where the first of all stands at p, and the next one behind it.
+use Rattle.std.proofs.Common.{◌≡◌, ℕ, ◌+◌, ◌-◌, ◌<◌, ◌≤◌, Bool, List, length, Decides, get_or, take, drop, sym, ap, ◌∙◌, ⊎_elim, arith, length-drop}
+use Rattle.std.proofs.lemmas.List.{get_or-drop, take_all}
+use Rattle.std.proofs.lemmas.Bool.{cases_eq}
+use Rattle.std.proofs.lemmas.Bool.Decides.{Decides-like}
+use Rattle.text.specs.Characters.{PlainCharacter}
+use Rattle.text.specs.Names.{Pair, FirstPair, LetterAt, Alone, Filled}
 
--- a pair of what is left after n characters is one of the text, and the other way round
-further : (xs : List ℕ) (n k : ℕ) → Pair (drop n xs) (length (drop n xs)) k → Pair xs (length xs) (n + k)
-further xs n k t =
-    let e : n + (k + 1) ≡ n + k + 1 = omega arith in (
-      omega (arith, length-drop n xs),
-      sym (get_or-drop n xs k 0) ∙ t.1,
-      ap (λ m. get_or xs m 0) (sym e) ∙ sym (get_or-drop n xs (k + 1) 0) ∙ t.2,
-    )
+-- what is left of a text after n characters, as a slice is cut
+abbrev pub after : ℕ → List ℕ → List ℕ
+after n xs = take (length xs - n) (drop n xs)
 
+after_is : (n : ℕ) (xs : List ℕ) → after n xs ≡ drop n xs
+after_is n xs = grind (arith, take_all, length-drop)
+
+-- a pair from the n-th character on is one of what is left there
 left : (xs : List ℕ) (n k : ℕ) → n ≤ k → Pair xs (length xs) k → Pair (drop n xs) (length (drop n xs)) (k - n)
 left xs n k h t =
     let e : n + (k - n) ≡ k = omega arith in
@@ -23,38 +23,60 @@ left xs n k h t =
       get_or-drop n xs (k - n + 1) 0 ∙ ap (λ m. get_or xs m 0) f ∙ t.2,
     )
 
--- where a first pair stands, it is alone exactly if there is none in what is left after its first filler
-alone : (xs : List ℕ) (first : ℕ) (o : Option ℕ) (r : Bool) → is_some o ≡ not r → FirstPair xs first
-    → MatchOption o ((k : ℕ) → Pair (drop (first + 1) xs) (length (drop (first + 1) xs)) k → ⊥) (FirstPair (drop (first + 1) xs))
-    → Decides r (OnePair xs (length xs))
-alone xs first None r e f n = (λ _ j k t u. sym (at j t) ∙ at k u, λ _. not-false r (sym e))
-  where
-    at : (k : ℕ) → Pair xs (length xs) k → first ≡ k
-    at k t = ⊎_elim sym (λ s. absurd (n (k - (first + 1)) (left xs (first + 1) k (omega (arith, f.1 k t)) t))) (cases_eq k first)
-alone xs first (Some k) r e f n =
-    (λ t. absurd (true≢false (e ∙ ap not t)), λ one. absurd (omega (arith, one first (first + 1 + k) f.0 (further xs (first + 1) k n.0))))
+module _ (xs : List ℕ) (p : ℕ) (first : FirstPair xs p) where
+  -- a pair before a letter is the first one, or is in what is left behind its first filler
+  where_pair : (j l : ℕ) → Pair xs l j → LetterAt xs l → (p < j → Pair (drop (p + 1) xs) (length (drop (p + 1) xs)) (j - (p + 1)) → j ≡ p) → j ≡ p
+  where_pair j l t h second =
+      let long : Pair xs (length xs) j = (omega (arith, t.0, h.0), t.1, t.2) in
+      let after = first.1 j long in
+      ⊎_elim (λ e. e) (λ n. second (omega arith) (left xs (p + 1) j (omega arith) long)) (cases_eq j p)
 
-pub rest_alone : (xs rest : List ℕ) (first : ℕ) (o : Option ℕ) (r : Bool) → is_some o ≡ not r → FirstPair xs first
-    → MatchOption o ((k : ℕ) → Pair rest (length rest) k → ⊥) (FirstPair rest) → rest ≡ drop (first + 1) xs → Decides r (OnePair xs (length xs))
-rest_alone xs rest first o r e f n p = alone xs first o r e f (rw p at n)
+  all_first : ((j l : ℕ) → Pair xs l j → LetterAt xs l → j ≡ p) → Alone xs
+  all_first is j k l m t h u g = is j l t h ∙ sym (is k m u g)
 
-module _ (xs : List ℕ) (e : ℕ) (last : LastLetter xs e) where
-  -- a pair before a letter is one before the last letter's end
-  pair_in : (j l : ℕ) → Pair xs l j → LetterAt xs l → Pair (take (e + 1) xs) (length (take (e + 1) xs)) j
-  pair_in j l t h =
-      let b = last.1 l h in
-      let n = length-take-le (e + 1) xs (omega arith) in
-      (omega arith, get_or-take (e + 1) xs j 0 (omega arith) ∙ t.1, get_or-take (e + 1) xs (j + 1) 0 (omega arith) ∙ t.2)
+  -- with no second pair, the first is alone
+  pub none : ((k : ℕ) → Pair (after (p + 1) xs) (length (after (p + 1) xs)) k → ⊥) → Alone xs
+  none n =
+      let m = rw (after_is (p + 1) xs) at n in
+      all_first (λ j l t h. where_pair j l t h (λ _ s. absurd (m (j - (p + 1)) s)))
 
-  pair_out : (j : ℕ) → Pair (take (e + 1) xs) (length (take (e + 1) xs)) j → Pair xs e j
-  pair_out j t =
-      let n = length-take-le (e + 1) xs (omega arith) in
-      let a : get_or xs j 0 ≡ 60 = sym (get_or-take (e + 1) xs j 0 (omega arith)) ∙ t.1 in
-      let b : get_or xs (j + 1) 0 ≡ 60 = sym (get_or-take (e + 1) xs (j + 1) 0 (omega arith)) ∙ t.2 in
-      ⊎_elim (λ s. absurd (omega (arith, last.0.1, ap (λ m. get_or xs m 0) s))) (λ m. (omega arith, a, b)) (cases_eq (j + 1) e)
+  module _ (q : ℕ) (second : FirstPair (drop (p + 1) xs) q) where
+    behind : (k : ℕ) → get_or (drop q (drop (p + 1) xs)) k 0 ≡ get_or xs (p + 1 + (q + k)) 0
+    behind k = get_or-drop q (drop (p + 1) xs) k 0 ∙ get_or-drop (p + 1) xs (q + k) 0
 
-  pub alone_from : OnePair (take (e + 1) xs) (length (take (e + 1) xs)) → (j k l m : ℕ) → Pair xs l j → LetterAt xs l → Pair xs m k → LetterAt xs m → j ≡ k
-  alone_from one j k l m t h u g = one j k (pair_in j l t h) (pair_in k m u g)
+    if_filled : Filled (drop q (drop (p + 1) xs)) → Alone xs
+    if_filled filled = all_first (λ j l t h. where_pair j l t h (λ b s.
+        let far = second.1 (j - (p + 1)) s in
+        let k = l - (p + 1 + q) in
+        let e : p + 1 + (q + k) ≡ l = omega (arith, t.0) in
+        let in_rest : k < length (drop q (drop (p + 1) xs)) = omega (arith, length-drop q (drop (p + 1) xs), length-drop (p + 1) xs, t.0, h.0) in
+        let f : get_or xs l 0 ≡ 60 = ap (λ m. get_or xs m 0) (sym e) ∙ sym (behind k) ∙ filled k in_rest in
+        absurd (omega (arith, h.1))))
 
-  pub one_from : Name xs → OnePair (take (e + 1) xs) (length (take (e + 1) xs))
-  one_from n j k t u = n.alone j k e e (pair_out j t) last.0 (pair_out k u) last.0
+    module _ (plain : (k : ℕ) → k < length xs → PlainCharacter (get_or xs k 0)) where
+      letter_behind : (k : ℕ) → LetterAt xs (p + 1 + (q + k)) → Alone xs → ⊥
+      letter_behind k h one =
+          let s0 : get_or xs (p + 1 + q) 0 ≡ 60 = sym (get_or-drop (p + 1) xs q 0) ∙ second.0.1 in
+          let s1 : get_or xs (p + 1 + (q + 1)) 0 ≡ 60 = sym (get_or-drop (p + 1) xs (q + 1) 0) ∙ second.0.2 in
+          let s2 : get_or xs (p + 1 + q + 1) 0 ≡ 60 = ap (λ m. get_or xs m 0) (omega arith) ∙ s1 in
+          let not_at : (m : ℕ) → get_or xs m 0 ≡ 60 → m ≡ p + 1 + (q + k) → ⊥ = λ m f e. let g : get_or xs m 0 ≡ get_or xs (p + 1 + (q + k)) 0 = ap (λ n. get_or xs n 0) e in omega (arith, h.1) in
+          let n0 : k ≡ 0 → ⊥ = λ z. not_at (p + 1 + q) s0 (omega arith) in
+          let n1 : k ≡ 1 → ⊥ = λ z. not_at (p + 1 + q + 1) s2 (omega arith) in
+          let far : 1 < k = omega arith in
+          let same = one p (p + 1 + q) _ _ (omega arith, first.0.1, first.0.2) h (omega arith, s0, s2) h in
+          omega arith
+
+      if_alone : Alone xs → Filled (drop q (drop (p + 1) xs))
+      if_alone one k h =
+          let in_xs : p + 1 + (q + k) < length xs = omega (arith, length-drop q (drop (p + 1) xs), length-drop (p + 1) xs) in
+          behind k ∙ ⊎_elim (λ l. absurd (letter_behind k (in_xs, l) one)) (λ f. f) (plain (p + 1 + (q + k)) in_xs)
+
+      decided : (r : Bool) → Decides r (Filled (drop q (drop (p + 1) xs))) → Decides r (Alone xs)
+      decided r d = Decides-like r if_filled if_alone d
+
+  -- and behind a second pair there is to be nothing but fillers
+  pub some : (q : ℕ) (r : Bool) → FirstPair (after (p + 1) xs) q → Decides r (Filled (after q (after (p + 1) xs)))
+      → ((k : ℕ) → k < length xs → PlainCharacter (get_or xs k 0)) → Decides r (Alone xs)
+  some q r second d plain =
+      let e = after_is (p + 1) xs in
+      decided q (rw e at second) plain r (rw (after_is q (after (p + 1) xs) ∙ ap (drop q) e) at d)

@@ -1,104 +1,51 @@
--- The weights in turn: a cycle over them gives each character its own, and the fold of these pairs is the weighted sum.
-use Rattle.std.proofs.Common.{◌≡◌, ℕ, suc, zero, ◌+◌, ◌*◌, ◌%◌, ◌<◌, ◌⊎◌, List, [], ◌∷◌, length, get_or, drop, Option, Some, None, MatchOption, Iter, sym, refl, ap, ◌∙◌, inl, inr, zero-add, ⊎_elim, arith}
-use Rattle.std.proofs.lemmas.Iterator.{YieldsList, zips}
-use Rattle.std.proofs.lemmas.Fn.{fronts}
-use Rattle.std.specs.Iterator.{AlwaysYields}
-use Rattle.std.specs.Iterator.Adapters.{cycle_source, cycle_start, cycle_steps, zip_first, zip_second}
-use Rattle.std.specs.List.{fold}
-use Rattle.std.specs.Slice.Iter.{iter_rest}
-use Rattle.std.specs.declared.iter.Cycle.{Cycle}
-use Rattle.std.specs.declared.iter.Zip.{Zip}
-use Rattle.text.specs.Digits.{value_of, weights, weight_at, weighted, check_digit_of}
-use denote.Ref.{Bor}
+-- The weights in turn: what three characters add to the weighted sum, and that it goes on behind a part.
+use Rattle.std.proofs.Common.{◌≡◌, ℕ, suc, ◌+◌, ◌-◌, ◌*◌, ◌%◌, ◌≤◌, List, [], ◌∷◌, ◌++◌, length, get_or, take, drop, refl, ap, add-zero, zero-add, arith, length-drop}
+use Rattle.std.proofs.lemmas.List.{take_all}
+use Rattle.text.specs.Digits.{value_of, weights, weight_at, weighted}
 
--- characters of which the first stands at k, each with its weight
-abbrev pub weighed : ℕ → List ℕ → List (ℕ × ℕ)
-weighed k [] = []
-weighed k (c ∷ cs) = (c, weight_at k) ∷ weighed (suc k) cs
+-- the sum at places that have the same weights
+same_turn : (xs : List ℕ) (j k : ℕ) → j % 3 ≡ k % 3 → weighted j xs ≡ weighted k xs
+same_turn [] j k e = refl
+same_turn (x ∷ xs) j k e =
+    let w : weight_at j ≡ weight_at k = ap (λ r. get_or weights r 0) e in
+    let ih = same_turn xs (suc j) (suc k) (omega arith) in
+    cc
 
-abbrev pub plus : ℕ → ℕ × ℕ → ℕ
-plus sum p = (sum + p.1 * value_of p.0) % 10
+-- the first three characters apart
+three : (k : ℕ) (xs : List ℕ) → 3 ≤ length xs → weighted k xs ≡
+    weight_at k * value_of (get_or xs 0 0) + (weight_at (k + 1) * value_of (get_or xs 1 0) + (weight_at (k + 2) * value_of (get_or xs 2 0) + weighted k (drop 3 xs)))
+three k [] h = absurd (omega arith)
+three k (x ∷ []) h = absurd (omega arith)
+three k (x ∷ (y ∷ [])) h = absurd (omega arith)
+three k (x ∷ (y ∷ (z ∷ xs))) h =
+    let s = same_turn xs (suc (suc (suc k))) k (omega arith) in
+    let e : suc k ≡ k + 1 = omega arith in
+    let f : suc (suc k) ≡ k + 2 = omega arith in
+    cc
 
-fold_weighed : (cs : List ℕ) (k sum : ℕ) → fold plus (sum % 10) (weighed k cs) ≡ (sum + weighted k cs) % 10
-fold_weighed [] k sum = omega arith
-fold_weighed (c ∷ cs) k sum =
-    let e : plus (sum % 10) (c, weight_at k) ≡ (sum + weight_at k * value_of c) % 10 = omega arith in
-    let ih = fold_weighed cs (suc k) (sum + weight_at k * value_of c) in
-    ap (λ s. fold plus s (weighed (suc k) cs)) e ∙ ih ∙ omega arith
+-- one step of the loop: the sum, or what is left of it by 10, takes up three characters
+pub step : (k sum left total x y z : ℕ) (xs ws : List ℕ) → 3 ≤ length xs → ws ≡ weight_at k ∷ weight_at (k + 1) ∷ weight_at (k + 2) ∷ []
+    → x ≡ get_or ws 0 0 * value_of (get_or xs 0 0) → y ≡ get_or ws 1 0 * value_of (get_or xs 1 0) → z ≡ get_or ws 2 0 * value_of (get_or xs 2 0)
+    → left % 10 ≡ sum % 10 → (sum + weighted k xs) % 10 ≡ total % 10 → (left + x + y + z + weighted k (take (length xs - 3) (drop 3 xs))) % 10 ≡ total % 10
+step k sum left total x y z xs ws h e p q r l i =
+    let t = three k xs h in
+    let a : take (length xs - 3) (drop 3 xs) ≡ drop 3 xs = grind (arith, take_all, length-drop) in
+    let p2 = rw e at p in
+    let q2 = rw e at q in
+    let r2 = rw e at r in
+    rw a (omega arith)
 
-pub sum_weighed : (cs : List ℕ) → fold plus 0 (weighed 0 cs) ≡ check_digit_of cs
-sum_weighed cs = fold_weighed cs 0 0 ∙ ap (λ n. n % 10) (zero-add (weighted 0 cs))
+-- the sum goes on behind a part
+pub behind : (xs ys : List ℕ) (k : ℕ) → weighted k (xs ++ ys) ≡ weighted k xs + weighted (k + length xs) ys
+behind [] ys k = rw (add-zero, zero-add) refl
+behind (x ∷ xs) ys k = let ih = behind xs ys (suc k) in let s = same_turn ys (suc k + length xs) (k + suc (length xs)) (omega arith) in omega arith
 
--- a cycle over the weights before it gives that of place k
-abbrev Stands : ℕ → Cycle (Iter ℕ) → Type 0
-Stands k s = (iter_rest (cycle_start s) ≡ weights) × (((k % 3 ≡ 0) × (iter_rest (cycle_source s) ≡ [])) ⊎ (iter_rest (cycle_source s) ≡ drop (k % 3) weights))
-
--- what is left of the weights after one
-after : (m w : ℕ) (ws : List ℕ) → m < 3 → drop m weights ≡ w ∷ ws → (w ≡ get_or weights m 0) × (((m ≡ 2) × (ws ≡ [])) ⊎ ((m < 2) × (ws ≡ drop (m + 1) weights)))
-after zero w ws h e = (cc, inr (omega arith, cc))
-after (suc zero) w ws h e = (cc, inr (omega arith, cc))
-after (suc (suc zero)) w ws h e = (cc, inl (refl, cc))
-after (suc (suc (suc m))) w ws h e = absurd (omega arith)
-
-left_over : (m : ℕ) → m < 3 → 0 < length (drop m weights)
-left_over zero h = omega arith
-left_over (suc zero) h = omega arith
-left_over (suc (suc zero)) h = omega arith
-left_over (suc (suc (suc m))) h = absurd (omega arith)
-
-module _ (clones : Iter ℕ → Iter ℕ → Type 0) (same : (a b : Iter ℕ) → clones a b → iter_rest b ≡ iter_rest a) where
-  -- one weight, where some are left
-  more : (k : ℕ) (s t : Cycle (Iter ℕ)) (x : Bor ℕ) (u : Iter ℕ) → Stands k s → cycle_start t ≡ cycle_start s → iter_rest (cycle_source s) ≡ x.now ∷ iter_rest u
-      → cycle_source t ≡ u → (x.now ≡ weight_at k) × Stands (suc k) t
-  more k s t x u h a e f =
-      ⊎_elim (λ z. let q : length {A = ℕ} [] ≡ length (x.now ∷ iter_rest u) = ap length (sym z.1 ∙ e) in absurd (omega arith))
-      (λ z. let q = after (k % 3) x.now (iter_rest u) (omega arith) (sym z ∙ e) in (
-        q.0,
-        (
-          ap iter_rest a ∙ h.0,
-          ⊎_elim (λ m. inl (omega (arith, m.0), ap iter_rest f ∙ m.1))
-              (λ m. let n : k % 3 + 1 ≡ suc k % 3 = omega (arith, m.0) in inr (ap iter_rest f ∙ m.1 ∙ ap (λ l. drop l weights) n)) q.1,
-        ),
-      ))
-      h.1
-
-  -- where none are left, the first of a clone
-  again : (k : ℕ) (s t : Cycle (Iter ℕ)) (j : Iter ℕ) (r : Option (Bor ℕ)) → Stands k s → cycle_start t ≡ cycle_start s → length (iter_rest (cycle_source s)) ≡ 0
-      → iter_rest j ≡ weights → fronts j r (cycle_source t) → (y : Bor ℕ) × (r ≡ Some y) × (y.now ≡ weight_at k) × Stands (suc k) t
-  again k s t j None h a e f g = let q : length (iter_rest j) ≡ length weights = ap length f in absurd (omega arith)
-  again k s t j (Some y) h a e f g =
-      let q = after 0 y.now (iter_rest (cycle_source t)) (omega arith) (sym f ∙ g) in
-      let z : k % 3 ≡ 0 = ⊎_elim (λ n. n.0) (λ n. let l = left_over (k % 3) (omega arith) in absurd (omega (arith, ap length n))) h.1 in
-      let o : 1 ≡ suc k % 3 = omega arith in (
-        y,
-        refl,
-        q.0 ∙ ap (λ l. get_or weights l 0) (sym z),
-        (ap iter_rest a ∙ h.0, ⊎_elim (λ m. absurd (omega (arith, m.0))) (λ m. inr (m.1 ∙ ap (λ l. drop l weights) o)) q.1),
-      )
-
-  step : (k : ℕ) (s t : Cycle (Iter ℕ)) (r : Option (Bor ℕ)) (o : Option (Bor ℕ)) (u : Iter ℕ) → Stands k s → cycle_start t ≡ cycle_start s → fronts (cycle_source s) o u
-      → MatchOption o ((j : Iter ℕ) × clones (cycle_start s) j × fronts j r (cycle_source t)) (λ x. (r ≡ Some x) × (cycle_source t ≡ u))
-      → (y : Bor ℕ) × (r ≡ Some y) × (y.now ≡ weight_at k) × Stands (suc k) t
-  step k s t r None u h a f m = again k s t m.0 r h a f.0 (same _ m.0 m.1 ∙ h.0) m.2
-  step k s t r (Some x) u h a f m = let q = more k s t x u h a f m.1 in (x, m.0, q.0, q.1)
-
-  turn : (k : ℕ) (s t : Cycle (Iter ℕ)) (r : Option (Bor ℕ)) → Stands k s → cycle_steps fronts clones s r t
-      → (y : Bor ℕ) × (r ≡ Some y) × (y.now ≡ weight_at k) × Stands (suc k) t
-  turn k s t r h c = step k s t r c.1.0 c.1.1 h c.0 c.1.2 c.1.3
-
-  all : {S : Type 0} (steps : S → Option (Bor ℕ) → S → Type 0) (cs : List ℕ) (k : ℕ) (s : Zip S (Cycle (Iter ℕ))) → AlwaysYields steps (λ x. x.now) (zip_first s) cs
-      → Stands k (zip_second s) → AlwaysYields (zips steps (cycle_steps fronts clones)) (λ p. (p.0.now, p.1.now)) s (weighed k cs)
-  all steps [] k s h st = λ x j z. h x.0 (zip_first j) z.0
-  all steps (c ∷ cs) k s h st = (
-    λ j z. ⊎_elim (λ u. h.0 u.0 u.1) (λ u. let q = (turn k (zip_second s) u.0 None st u.1).1 in cc) z,
-    λ x j z. let p = h.1 x.0 (zip_first j) z.0 in
-        let q = turn k (zip_second s) (zip_second j) (Some x.1) st z.1 in
-        let e : x.1 ≡ q.0 = cc in
-        let w : x.1.now ≡ weight_at k = ap (λ (y : Bor ℕ). y.now) e ∙ q.2 in
-        (λ i. (p.0 i, w i), all steps cs (suc k) j p.1 q.3),
-  )
-
-  pub yields : {S : Type 0} {steps : S → Option (Bor ℕ) → S → Type 0} {cs : List ℕ} {s : Zip S (Cycle (Iter ℕ))} → YieldsList steps (λ x. x.now) (zip_first s) cs
-      → iter_rest (cycle_start (zip_second s)) ≡ weights → iter_rest (cycle_source (zip_second s)) ≡ weights
-      → YieldsList (zips steps (cycle_steps fronts clones)) (λ p. (p.0.now, p.1.now)) s (weighed 0 cs)
-  yields {steps} {cs} {s} h start source = record { runs = all steps cs 0 s h.runs (start, inr source) }
+-- and behind two
+pub behind_two : (xs ys zs : List ℕ) (a b c : ℕ) → a ≡ weighted 0 xs % 10 → b ≡ weighted (length xs) ys % 10 → c ≡ weighted (length xs % 3 + length ys % 3) zs % 10
+    → (a + b + c) % 10 ≡ weighted 0 (xs ++ (ys ++ zs)) % 10
+behind_two xs ys zs a b c e f g =
+    let p = behind xs (ys ++ zs) 0 in
+    let q = behind ys zs (0 + length xs) in
+    let s = same_turn ys (0 + length xs) (length xs) (omega arith) in
+    let t = same_turn zs (0 + length xs + length ys) (length xs % 3 + length ys % 3) (omega arith) in
+    omega arith

@@ -7,4 +7,4 @@ pub mod names;
 
 pub use dates::is_date;
 pub use digits::{check_digit, composite_digit};
-pub use names::is_name;
+pub use names::{is_filled, is_name};

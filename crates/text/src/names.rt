@@ -1,43 +1,41 @@
 //! Names: letters with single fillers between them and at most one pair of fillers, filled up with fillers.
 ghost use Rattle.std.specs.Prelude.{ℕ, ◌<◌, length, Decides, MatchOption, slice_index};
 ghost use Rattle.text.specs.Characters.{PlainCharacter};
-ghost use Rattle.text.specs.Names.{Pair, OnePair, FirstPair, LetterAt, LastLetter, Name};
+ghost use Rattle.text.specs.Names.{Pair, FirstPair, Alone, Filled, Name};
 
 /// Whether the field is a name.
 pub fn is_name(field: &[u8]) -> bool
     ensures { Decides result (Name field.now) }
 {
-    if !is_plain(field) {
-        return false;
-    }
-    match last_letter(field) {
-        Some(last) if field[0] != b'<' => has_one_pair(&field[..=last]),
+    match field {
+        [b'A'..=b'Z', ..] => is_plain(field) && has_one_pair(field),
         _ => false,
     }
 }
 
+// No early end, so that many characters are tested at once.
 /// Whether the field is made of letters and fillers.
 fn is_plain(field: &[u8]) -> bool
     ensures { Decides result ((k : ℕ) → k < length field.now → PlainCharacter (slice_index field.now k)) }
 {
-    field.iter().all(|character| character.is_ascii_uppercase() || *character == b'<')
+    let mut plain = true;
+    for character in field {
+        plain &= character.is_ascii_uppercase() || *character == b'<';
+    }
+    plain
 }
 
-/// The index of the field's last letter; `None` exactly if it has no letter.
-fn last_letter(field: &[u8]) -> Option<usize>
-    ensures { MatchOption result ((k : ℕ) → LetterAt field.now k → ⊥) (LastLetter field.now) }
+/// Whether two fillers stand together at most once before the last letter: behind a second pair come fillers alone.
+fn has_one_pair(field: &[u8]) -> bool
+    requires plain { (k : ℕ) → k < length field.now → PlainCharacter (slice_index field.now k) }
+    ensures { Decides result (Alone field.now) }
 {
-    field
-        .iter()
-        .rposition(|character| character.is_ascii_uppercase())
-}
-
-/// Whether two fillers stand together at most once.
-fn has_one_pair(text: &[u8]) -> bool
-    ensures { Decides result (OnePair text.now (length text.now)) }
-{
-    match first_pair(text) {
-        Some(first) => first_pair(&text[first + 1..]).is_none(),
+    let Some(first) = first_pair(field) else {
+        return true;
+    };
+    let rest = &field[first + 1..];
+    match first_pair(rest) {
+        Some(second) => is_filled(&rest[second..]),
         None => true,
     }
 }
@@ -48,4 +46,16 @@ fn first_pair(text: &[u8]) -> Option<usize>
 {
     text.windows(2)
         .position(|pair| matches!(*pair, [b'<', b'<']))
+}
+
+// No early end, as in `is_plain`.
+/// Whether the field is all fillers.
+pub fn is_filled(field: &[u8]) -> bool
+    ensures { Decides result (Filled field.now) }
+{
+    let mut filled = true;
+    for character in field {
+        filled &= *character == b'<';
+    }
+    filled
 }

@@ -7,4 +7,4 @@ pub mod Zones
 pub mod Faces
 pub mod Verdicts
 pub mod Cards
-mod Own
+mod Plain

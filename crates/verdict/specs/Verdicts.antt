@@ -1,16 +1,17 @@
 -- The lines of a file by the numbers of their cases, which lines the cases give, and that they give each only once.
-use Rattle.std.specs.Prelude.{◌≡◌, ℕ, ◌-◌, ◌≤◌, List, MatchBool, Option, ◌==◌, slice_index_or}
+use Rattle.std.specs.Prelude.{◌≡◌, ℕ, ◌≤◌, List, MatchBool, Option, ◌==◌, ◌≢◌}
 use Rattle.card.specs.Cards.{Files}
 use Rattle.card.specs.Profiles.{required}
 use Rattle.card.specs.Sheets.{HasLine, CardLines}
 use Rattle.card.specs.declared.line.Line.{Line}
-use Rattle.card.specs.declared.line.Line.TheVariants.{Open}
 use Rattle.common.specs.declared.lines.CommonLines.{CommonLines}
 use Rattle.faces.specs.declared.lines.FaceLines.{FaceLines}
 use Rattle.zone.specs.declared.lines.ZoneLines.{ZoneLines}
 use Rattle.cases.specs.Files.{CommonFile, ZoneFile, FaceFile}
 use Rattle.cases.specs.Groups.{AreStructureLines, AreSecurityLines}
 use Rattle.cases.specs.declared.structure.Structure.{Structure}
+use Rattle.sheet.specs.Sheets.{Written}
+use Rattle.sheet.specs.declared.sheet.Sheet.{Sheet}
 
 -- the lines of one file, by the numbers of the cases
 abbrev pub Lines : Type 0
@@ -55,9 +56,19 @@ AreFileLines kind declared file content lines =
     (MatchBool (file == 17) (AreSecurityLines content (structure_of lines) (lines 24))
     (AreStructureLines file (required declared file) content (structure_of lines)))))
 
--- a row of lines by case; the first is that of case 1
-abbrev pub by_case : List Line → Lines
-by_case row case = slice_index_or row (case - 1) Open
+-- a file that has no cases of its own, whatever its number
+pub record Plain (file : ℕ) : Type 0 where
+  pub not_common : file ≢ 0
+  pub not_zone : file ≢ 1
+  pub not_faces : file ≢ 2
+  pub not_security : file ≢ 17
+
+-- A file is judged: its lines on the sheet are lines that the cases give, it counts as judged, and all else on the sheet is as
+-- it was.
+pub record Judged (kind declared file : ℕ) (content : Option (List ℕ)) (sheet sheet' : Sheet) : Type 0 where
+  pub lines : Lines
+  pub given : AreFileLines kind declared file content lines
+  pub written : Written file lines sheet sheet'
 
 -- the lines that the cases give for a whole card
 abbrev pub CardGives : (kind declared : ℕ) → Files → CardLines → Type 0

@@ -1,57 +1,68 @@
-//! The lines of any file, by the numbers of their cases.
+//! A file's verdict: its lines, as the judge of its cases gives them, on a sheet.
 #![tactic(auto)]
 
-ghost use Rattle.std.specs.Prelude.{◌≡◌, ℕ, ◌+◌, ◌<◌, ◌≤◌, length, IfSome, MatchOption, slice_index_or};
+ghost use Rattle.std.specs.Prelude.{◌≡◌, ◌<◌, ◌≤◌};
 ghost use Rattle.std.specs.Option.{option_map};
-ghost use Rattle.card.specs.Sheets.{HasLine};
-ghost use Rattle.card.specs.declared.line.Line.TheVariants.{Open};
-ghost use Rattle.verdict.specs.Verdicts.{AreFileLines, by_case, structure_of};
+ghost use Rattle.verdict.specs.Verdicts.{Judged, Plain};
 
-use card::{DG1, DG2, EF_COM, EF_SOD, Line, Profile};
-use cases::{Structure, judge_common, judge_faces, judge_security, judge_structure, judge_zone};
+use card::{DG1, DG2, EF_COM, EF_SOD, Profile};
+use cases::{judge_common, judge_faces, judge_security, judge_structure, judge_zone};
+use sheet::Sheet;
 
-/// A line for each case, of which the first is case 1; open at the cases that a file does not have.
-pub type ByCase = [Line; 24];
-
-/// The lines of a file by case; `None` exactly if there is no file of this number.
-pub fn file_lines(file: u8, content: Option<&[u8]>, profile: Profile) -> Option<ByCase>
-    ensures lines { MatchOption result (17 < file) (λ row. (file ≤ 17) × AreFileLines profile.kind profile.declared file (option_map (λ x. x.now) content.entry) (by_case row)) }
-    ensures open { IfSome result (λ row. (case : ℕ) → 1 ≤ case → (HasLine case file → ⊥) → by_case row case ≡ Open) }
+/// Judges a file and writes its lines into the sheet; the file then counts as judged. A number above 17 changes nothing.
+pub fn write_verdict(sheet: &mut Sheet, file: u8, content: Option<&[u8]>, profile: Profile)
+    ensures judged { file ≤ 17 → Judged profile.kind profile.declared file (option_map (λ x. x.now) content.entry) sheet.old sheet.new }
+    ensures still { 17 < file → sheet.new ≡ sheet.old }
 {
     // A match, since each judge answers lines of a type of its own.
     match file {
-        EF_COM => {
-            let common = judge_common(content, profile);
-            Some(row_of(common.structure, 4, &common.own.by_case()))
-        }
-        DG1 => {
-            let zone = judge_zone(content, profile);
-            Some(row_of(zone.structure, 9, &zone.own.by_case()))
-        }
-        DG2 => {
-            let faces = judge_faces(content, profile);
-            Some(row_of(faces.structure, 21, &faces.own.by_case()))
-        }
-        EF_SOD => {
-            let security = judge_security(content, profile);
-            Some(row_of(security.structure, 24, &[security.own]))
-        }
-        _ => {
-            let structure = judge_structure(file, content, profile)?;
-            Some(row_of(structure, 4, &[]))
-        }
+        EF_COM => write_common(sheet, content, profile),
+        DG1 => write_zone(sheet, content, profile),
+        DG2 => write_faces(sheet, content, profile),
+        EF_SOD => write_security(sheet, content, profile),
+        _ => write_structure(sheet, file, content, profile),
     }
 }
 
-/// A row with the lines of cases 1 to 3, and with a file's own lines from their first case on.
-fn row_of(structure: Structure, first: usize, own: &[Line]) -> ByCase
-    requires { (4 ≤ first) × (first + length own.now ≤ 25) }
-    ensures structure { structure_of (by_case result) ≡ structure }
-    ensures open { (case : ℕ) → 4 ≤ case → (first ≤ case → case < first + length own.now → ⊥) → by_case result case ≡ Open }
-    ensures own { (k : ℕ) → k < length own.now → by_case result (first + k) ≡ slice_index_or own.now k Open }
+/// The verdict of EF.COM.
+fn write_common(sheet: &mut Sheet, content: Option<&[u8]>, profile: Profile)
+    ensures { Judged profile.kind profile.declared 0 (option_map (λ x. x.now) content.entry) sheet.old sheet.new }
 {
-    let mut row = [Line::Open; 24];
-    row[..3].copy_from_slice(&structure.by_case());
-    row[first - 1..first - 1 + own.len()].copy_from_slice(own);
-    row
+    let common = judge_common(content, profile);
+    sheet.write(EF_COM, &common.structure.by_case(), &common.own.by_case());
+}
+
+/// The verdict of DG1.
+fn write_zone(sheet: &mut Sheet, content: Option<&[u8]>, profile: Profile)
+    ensures { Judged profile.kind profile.declared 1 (option_map (λ x. x.now) content.entry) sheet.old sheet.new }
+{
+    let zone = judge_zone(content, profile);
+    sheet.write(DG1, &zone.structure.by_case(), &zone.own.by_case());
+}
+
+/// The verdict of DG2.
+fn write_faces(sheet: &mut Sheet, content: Option<&[u8]>, profile: Profile)
+    ensures { Judged profile.kind profile.declared 2 (option_map (λ x. x.now) content.entry) sheet.old sheet.new }
+{
+    let faces = judge_faces(content, profile);
+    sheet.write(DG2, &faces.structure.by_case(), &faces.own.by_case());
+}
+
+/// The verdict of EF.SOD.
+fn write_security(sheet: &mut Sheet, content: Option<&[u8]>, profile: Profile)
+    ensures { Judged profile.kind profile.declared 17 (option_map (λ x. x.now) content.entry) sheet.old sheet.new }
+{
+    let security = judge_security(content, profile);
+    sheet.write(EF_SOD, &security.structure.by_case(), &[security.own]);
+}
+
+/// The verdict of a file without cases of its own.
+fn write_structure(sheet: &mut Sheet, file: u8, content: Option<&[u8]>, profile: Profile)
+    requires { Plain file }
+    ensures judged { file ≤ 17 → Judged profile.kind profile.declared file (option_map (λ x. x.now) content.entry) sheet.old sheet.new }
+    ensures still { 17 < file → sheet.new ≡ sheet.old }
+{
+    if let Some(structure) = judge_structure(file, content, profile) {
+        sheet.write(file, &structure.by_case(), &[]);
+    }
 }

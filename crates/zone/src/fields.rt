@@ -1,11 +1,11 @@
 //! Whether a field of the zone is right, alone or with its check digit.
-ghost use Rattle.std.specs.Prelude.{◌≡◌, ℕ, ◌<◌, length, Decides, MatchOption, slice_index};
-ghost use Rattle.text.specs.Characters.{filler};
+ghost use Rattle.std.specs.Prelude.{◌≡◌, ◌<◌, length, Decides, MatchOption, slice_index};
+ghost use Rattle.text.specs.Characters.{ZoneCharacter};
 ghost use Rattle.zone.specs.Layouts.{part, Within, Checked};
 ghost use Rattle.zone.specs.Fields.{ZoneCharacters, FirstOther, Code, State, RightDigit, Number, Dated, Sex, Optional, Composite};
 
 use crate::layout::{Cover, Span};
-use text::{check_digit, composite_digit, is_date};
+use text::{check_digit, composite_digit, is_date, is_filled};
 
 // The bound of one slice: a struct of the zone and a span that has it would be this slice under another name.
 /// The characters of a span.
@@ -21,7 +21,30 @@ pub(crate) fn cut(zone: &[u8], span: Span) -> &[u8]
 pub(crate) fn first_other(zone: &[u8]) -> Option<usize>
     ensures { MatchOption result (ZoneCharacters zone.now) (λ k. FirstOther zone.now k) }
 {
-    zone.iter().position(|character| !matches!(character, b'A'..=b'Z' | b'0'..=b'9' | b'<'))
+    if is_clean(zone) {
+        return None;
+    }
+    zone.iter()
+        .position(|character| !is_zone_character(*character))
+}
+
+// No early end, so that many characters are tested at once.
+/// Whether the zone is made of letters, digits and fillers.
+fn is_clean(zone: &[u8]) -> bool
+    ensures { Decides result (ZoneCharacters zone.now) }
+{
+    let mut clean = true;
+    for character in zone {
+        clean &= is_zone_character(*character);
+    }
+    clean
+}
+
+/// Whether the character is a letter, a digit or a filler.
+fn is_zone_character(character: u8) -> bool
+    ensures { Decides result (ZoneCharacter character) }
+{
+    matches!(character, b'A'..=b'Z' | b'0'..=b'9' | b'<')
 }
 
 /// Whether the field is the code of a passport, or that of a card, which is not a visa's.
@@ -104,14 +127,9 @@ impl<'a> Field<'a> {
     }
 }
 
-/// Whether the field is all fillers.
-fn is_filled(field: &[u8]) -> bool
-    ensures { Decides result ((k : ℕ) → k < length field.now → slice_index field.now k ≡ filler) }
-{
-    field.iter().all(|character| *character == b'<')
-}
-
+// Inlined into the judge of each layout, where the lengths of the covered parts are known.
 /// Whether the composite, which stands at this index, is right.
+#[inline(always)]
 pub(crate) fn is_composite(zone: &[u8], cover: Cover, index: usize) -> bool
     requires within { Within (length zone.now) cover.first × Within (length zone.now) cover.second × Within (length zone.now) cover.third }
     requires index_in_bounds { index < length zone.now }

@@ -34,7 +34,9 @@ pub(crate) fn judge<L: Layout>(reader: Reader<'_>) -> ZoneLines
     }
 }
 
+// Inlined, as `judge_fields` is: the places of each layout are then constants, and none are copied.
 /// Cases 10 to 20, over a zone with its fields in these places.
+#[inline(always)]
 fn judge_zone(zone: Value<'_>, places: Places) -> ZoneLines
     requires lawful { Lawful places }
     requires long { length zone.bytes.now ≡ places.len }
@@ -54,6 +56,7 @@ fn judge_zone(zone: Value<'_>, places: Places) -> ZoneLines
 }
 
 /// Cases 11 to 20, over a zone with its fields in these places.
+#[inline(always)]
 fn judge_fields(zone: Value<'_>, places: Places) -> ZoneLines
     requires lawful { Lawful places }
     requires long { length zone.bytes.now ≡ places.len }

@@ -48,7 +48,9 @@ impl ZoneLines {
     }
 }
 
+// Each layout's judge is inlined here, and all of it stays out of the caller.
 /// Cases 9 to 20, over the value of DG1's template, which the reader has before it.
+#[inline(never)]
 pub fn zone_lines(reader: Reader<'_>, profile: Profile) -> ZoneLines
     ensures { AreZoneLines profile.kind reader.entry.position (rest_of reader.entry) result }
 {

@@ -1,6 +1,6 @@
 use Rattle.std.proofs.Common.{ℕ, ◌≤◌, refl, ◌∙◌, subst, arith}
 use Rattle.card.specs.Sheets.{passing, failing, unapplied, blocked}
-use Rattle.image.specs.Images.{files_in}
+use Rattle.image.specs.Checks.{files_at}
 use Rattle.sheet.specs.Tables.{line_in}
 use Rattle.sheet.proofs.Rows.{count_same}
 use Rattle.verdict.specs.Verdicts.{HoldsVerdict}
@@ -14,11 +14,11 @@ returns c =
     let kind = c.args.kind in
     let declared = c.args.declared in
     let p = c.in-Ok.ensures in
-    let files = files_in c.in-Ok-check.image.row.now in
-    let table = c.sheet_of-sheet.result.lines in
+    let files = files_at c.in-Ok-files_of.files.by_number in
+    let table = c.judge_all.new.sheet.lines in
     let holds : (file : ℕ) → file ≤ 17 → HoldsVerdict kind declared file (files file) (λ case. line_in table case file)
     = λ file l. subst (λ k. HoldsVerdict k declared file (files file) (λ case. line_in table case file)) p.1
-    (subst (λ d. HoldsVerdict c.in-Ok.profile.kind d file (files file) (λ case. line_in table case file)) p.2 (c.sheet_of-sheet.ensures file l)) in
+    (subst (λ d. HoldsVerdict c.in-Ok.profile.kind d file (files file) (λ case. line_in table case file)) p.2 (c.judge_all.ensures file l)) in
     let lines = card_lines kind declared files (line_in table) holds in
     let held = card_held kind declared files (line_in table) holds in
     let t = c.tally.ensures in
@@ -30,7 +30,7 @@ returns c =
       (omega (arith, c.if-states-lt-LINES.false), omega (arith, c.if-places-lt-LINES.false)),
       record {
         files = files;
-        image = c.in-Ok-check.ensures;
+        image = c.in-Ok-files_of.ensures;
         lines = lines;
         given = card_given kind declared files (line_in table) holds;
         states = by_place state_of table lines c.args.states.now c.write_lines.new.states held states;

@@ -1,8 +1,10 @@
-use Rattle.std.proofs.Common.{arith, length-drop}
-use Rattle.std.proofs.lemmas.List.{take_all}
-use Rattle.text.proofs.Pairs.{rest_alone}
+use Rattle.std.proofs.Common.{refl}
+use Rattle.text.proofs.Pairs.{none, some}
 use Rattle.text.proofs.names.has_one_pair.Goals as goal
 
-pub returns-in-Some : goal.returns-in-Some
-returns-in-Some c =
-    rest_alone _ _ _ _ _ c.is_none.ensures c.in-Some.ensures c.first_pair-in-Some.ensures (grind (arith, take_all, length-drop))
+pub returns-in-Some-first_pair : goal.returns-in-Some-first_pair
+returns-in-Some-first_pair c =
+    some c.args.field.now c.in-Some.first c.in-Some.ensures c.in-Some-first_pair.second _ c.in-Some-first_pair.ensures c.is_filled.ensures c.requires.plain
+
+pub returns-in-None : goal.returns-in-None
+returns-in-None c = (λ _. none c.args.field.now c.in-Some.first c.in-Some.ensures c.in-None.ensures, λ _. refl)

@@ -1,7 +1,7 @@
-use Rattle.std.proofs.Common.{◌≡◌, false, Ok, refl, ap, ◌∙◌, subst, rules}
+use Rattle.std.proofs.Common.{◌≡◌, false, Ok, refl, ap, ◌∙◌, subst, arith, rules}
 use Rattle.std.specs.Option.{option_map}
 use Rattle.source.specs.Whole.{Ready}
-use Rattle.verdict.specs.Verdicts.{AreFileLines, by_case}
+use Rattle.verdict.specs.Verdicts.{AreFileLines}
 use Rattle.run.specs.Calls.{Judges}
 use Rattle.run.proofs.Keeping.{lawful_judge}
 use Rattle.run.proofs.Reading.{read_whole}
@@ -16,13 +16,12 @@ returns g c =
     let before = c.args.buffer.now in
     let after = c.read_whole.new.buffer in
     let source' = c.read_whole.new.source in
-    let sheet' = c.write.new.self in
+    let sheet' = c.write_verdict.new.sheet in
     let h = c.in_ok-count.ensures in
     let w = h.wholly in
     let whole = read_whole bytes before after c.in_ok-count.count w.2 in
-    let v = c.in-Some.ensures.lines in
     let content_is : option_map (λ x. x.now) c.map-content.result ≡ bytes = search rules ∙ whole.1 in
-    let k = c.write.ensures.sets v.0 in
+    let v = c.write_verdict.ensures.judged (omega arith) in
     let unclosed = c.if-self.false in
     let link : (run.closed ≡ false → Ready file before → ⊥) → m.lost source' ≡ m.lost run.source = λ n. ap m.lost (h.still (n unclosed)) in
     let j : Judges run.profile.kind run.profile.declared bytes run.closed (m.lost run.source) (m.lost source') file before after run.sheet sheet' (Ok tt)
@@ -32,10 +31,10 @@ returns g c =
       w.1,
       whole.0,
       record {
-        verdict = by_case c.in-Some.lines;
-        given_by_the_cases = subst (λ z. AreFileLines run.profile.kind run.profile.declared file z (by_case c.in-Some.lines)) content_is v.1;
-        lines = k.lines;
-        judged = k.judged;
+        verdict = v.lines;
+        given_by_the_cases = subst (λ z. AreFileLines run.profile.kind run.profile.declared file z v.lines) content_is v.given;
+        lines = v.written.each;
+        judged = v.written.judged;
       },
     ) in
     record {

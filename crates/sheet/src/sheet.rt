@@ -8,16 +8,22 @@ use crate::tally::{Tally, tally_of};
 use card::{EF_SOD, Line};
 use std::ops::Range;
 
+/// How many cases every file has: 1 to 3.
+const SHARED: usize = 3;
+
+/// The lines of cases that one file alone has stand this far behind their number.
+const OWN: usize = 50;
+
 /// Where the line of a case and a file stands in the table, if there is one.
 fn index(case: u8, file: u8) -> Option<usize>
     ensures { MatchOption result (HasLine case file → ⊥) (λ i. HasLine case file × (i ≡ place case file)) }
 {
-    match (case, file) {
-        (1..=3, 0..=17) => Some(3 * usize::from(file) + usize::from(case) - 1),
-        (4..=8, 0) => Some(50 + usize::from(case)),
-        (9..=20, 1) => Some(50 + usize::from(case)),
-        (21..=23, 2) => Some(50 + usize::from(case)),
-        (24, 17) => Some(50 + usize::from(case)),
+    let case = usize::from(case);
+    match own_cases(file) {
+        Some(own) if own.contains(&case) => Some(OWN + case),
+        _ if case >= 1 && case <= SHARED && file <= EF_SOD => {
+            Some(SHARED * usize::from(file) + case - 1)
+        }
         _ => None,
     }
 }
@@ -37,9 +43,6 @@ fn own_cases(file: u8) -> Option<Range<usize>>
 
 /// How many lines there are.
 pub const LINES: usize = 75;
-
-/// How many cases every file has: 1 to 3.
-const SHARED: usize = 3;
 
 // A table of fixed size, of which one line is set through `&mut self`: no heap, and every line has its place. A line goes by
 // two plain numbers, its case and its file, as callers and C name it.
@@ -77,7 +80,7 @@ impl Sheet {
         self.put(SHARED * usize::from(file), shared);
         if let Some(Range { start, end }) = own_cases(file) {
             let count = own.len().min(end - start);
-            self.put(50 + start, &own[..count]);
+            self.put(OWN + start, &own[..count]);
         }
         self.judged.insert(file);
     }

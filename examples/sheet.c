@@ -7,17 +7,6 @@
 
 static uint8_t image[1 << 20];
 
-/* The case and the file of a line of the sheet. */
-static void name_of(unsigned line, unsigned *number, unsigned *file) {
-    if (line < 54) {
-        *number = line % 3 + 1;
-        *file = line / 3;
-        return;
-    }
-    *number = line - 50;
-    *file = *number <= 8 ? 0 : *number <= 20 ? 1 : *number <= 23 ? 2 : 17;
-}
-
 int main(int argc, char **argv) {
     if (argc != 4) {
         fprintf(stderr, "usage: %s KIND SET IMAGE\n", argv[0]);
@@ -40,15 +29,14 @@ int main(int argc, char **argv) {
     uint64_t places[SUHLUVA_LINES];
     struct suhluva_counts counts;
     uint32_t refusal = suhluva_sheet((uint8_t)strtoul(argv[1], NULL, 10), (uint16_t)strtoul(argv[2], NULL, 16), image, size,
-                                     states, SUHLUVA_LINES, places, SUHLUVA_LINES, &counts, &position);
+                                     states, places, &counts, &position);
     if (refusal != 0) {
         printf("refusal %" PRIu32 "\n", refusal);
         return 1;
     }
-    for (unsigned line = 0; line < SUHLUVA_LINES; line++) {
-        if (states[line] == SUHLUVA_FAIL) {
-            unsigned number, file;
-            name_of(line, &number, &file);
+    for (uint32_t line = 0; line < SUHLUVA_LINES; line++) {
+        uint8_t number, file;
+        if (states[line] == SUHLUVA_FAIL && suhluva_line(line, &number, &file) == 0) {
             printf("case %u of file %u fails at %" PRIu64 "\n", number, file, places[line]);
         }
     }

@@ -13,19 +13,19 @@ struct Counts {
     blocked: u32,
 }
 
-// As in include/suhluva.h; each slice is handed over as a pointer and a length.
+// As in include/suhluva.h.
 unsafe extern "C" {
     fn suhluva_check_image(image: *const u8, image_len: usize, position: *mut u64) -> u32;
+
+    fn suhluva_line(index: u32, case_number: *mut u8, file: *mut u8) -> u32;
 
     fn suhluva_sheet(
         kind: u8,
         declared: u16,
         image: *const u8,
         image_len: usize,
-        states: *mut u8,
-        states_len: usize,
-        places: *mut u64,
-        places_len: usize,
+        states: *mut [u8; LINES],
+        places: *mut [u64; LINES],
         counts: *mut Counts,
         position: *mut u64,
     ) -> u32;
@@ -40,17 +40,15 @@ fn sheet(kind: u8, declared: u16, image: &[u8]) -> Result<([(u8, u64); LINES], C
     if refusal != 0 {
         return Err((refusal, position));
     }
-    // SAFETY: each pointer and length are those of a slice that lives through the call, and no two overlap.
+    // SAFETY: as above; what is written are different variables.
     let refusal = unsafe {
         suhluva_sheet(
             kind,
             declared,
             image.as_ptr(),
             image.len(),
-            states.as_mut_ptr(),
-            LINES,
-            places.as_mut_ptr(),
-            LINES,
+            &mut states,
+            &mut places,
             &mut counts,
             &mut position,
         )
@@ -61,18 +59,12 @@ fn sheet(kind: u8, declared: u16, image: &[u8]) -> Result<([(u8, u64); LINES], C
     Ok((std::array::from_fn(|line| (states[line], places[line])), counts))
 }
 
-/// The case and the file of a line of the sheet.
-fn name_of(line: usize) -> (usize, usize) {
-    if line < 54 {
-        return (line % 3 + 1, line / 3);
-    }
-    let case = line - 50;
-    (case, match case {
-        4..=8 => 0,
-        9..=20 => 1,
-        21..=23 => 2,
-        _ => 17,
-    })
+/// The case and the file of the line at an index, if there is one.
+fn name_of(index: u32) -> Option<(u8, u8)> {
+    let (mut case, mut file) = (0, 0);
+    // SAFETY: two variables that live through the call.
+    let refusal = unsafe { suhluva_line(index, &mut case, &mut file) };
+    (refusal == 0).then_some((case, file))
 }
 
 fn main() {
@@ -88,9 +80,8 @@ fn main() {
         Err((8, position)) => println!("refusal 8 at {position}"),
         Err((refusal, _)) => println!("refusal {refusal}"),
         Ok((lines, counts)) => {
-            for (line, (state, place)) in lines.iter().enumerate() {
-                if *state == FAIL {
-                    let (case, file) = name_of(line);
+            for (index, (state, place)) in (0..).zip(lines) {
+                if state == FAIL && let Some((case, file)) = name_of(index) {
                     println!("case {case} of file {file} fails at {place}");
                 }
             }

@@ -1,4 +1,4 @@
-//! The door to the verified library: its foreign functions, and safe wrappers over them.
+//! The C interface of the verified library: its foreign functions, and safe wrappers over them.
 //!
 //! This is the only module with unsafe code, and the only one that knows the signatures; they are those of
 //! `include/suhluva.h`.
@@ -15,21 +15,22 @@ struct Counts {
     blocked: u32,
 }
 
-// Each slice is handed over as a pointer and a length.
+// The image is handed over as a pointer and a length, the arrays as a pointer to `LINES` elements.
 unsafe extern "C" {
     /// 0, or 8 with the position.
     fn suhluva_check_image(image_ptr: *const u8, image_len: usize, position: *mut u64) -> u32;
 
-    /// 0; 1; 3 if an array is too short; 8 with the position.
+    /// 0 with the case and the file of a line; 2.
+    fn suhluva_line(index: u32, case_number: *mut u8, file: *mut u8) -> u32;
+
+    /// 0; 1; 8 with the position.
     fn suhluva_sheet(
         kind: u8,
         declared: u16,
         image_ptr: *const u8,
         image_len: usize,
-        states_ptr: *mut u8,
-        states_len: usize,
-        places_ptr: *mut u64,
-        places_len: usize,
+        states: *mut u8,
+        places: *mut u64,
         counts: *mut Counts,
         position: *mut u64,
     ) -> u32;
@@ -45,7 +46,7 @@ pub enum Stray {
     Touched,
 }
 
-/// The arrays that the library writes into. They are kept from card to card.
+/// The arrays that the library writes into, each with one element more than it may write. They are kept from card to card.
 pub struct Door {
     states: [u8; LINES + 1],
     places: [u64; LINES + 1],
@@ -78,24 +79,15 @@ impl Door {
 
     /// Judges a card into the arrays, and gives the number that the library answers.
     pub fn call_sheet(&mut self, kind: u8, declared: u16, image: &[u8]) -> u32 {
-        self.call_sheet_with(kind, declared, image, [LINES + 1, LINES + 1])
-    }
-
-    /// The same, but handing over only so much of the states and the places.
-    fn call_sheet_with(&mut self, kind: u8, declared: u16, image: &[u8], sizes: [usize; 2]) -> u32 {
-        let states = &mut self.states[..sizes[0]];
-        let places = &mut self.places[..sizes[1]];
-        // SAFETY: as above; what is written are different fields.
+        // SAFETY: as above; the arrays have more than `LINES` elements, and what is written are different fields.
         unsafe {
             suhluva_sheet(
                 kind,
                 declared,
                 image.as_ptr(),
                 image.len(),
-                states.as_mut_ptr(),
-                states.len(),
-                places.as_mut_ptr(),
-                places.len(),
+                self.states.as_mut_ptr(),
+                self.places.as_mut_ptr(),
                 &mut self.counts,
                 &mut self.position,
             )
@@ -124,19 +116,16 @@ impl Door {
         self.answer(answer)
     }
 
-    /// As `sheet`, with one array shorter by one than it must be: 0 for the states, 1 for the places.
-    pub fn sheet_with_short_array(
-        &mut self,
-        which: usize,
-        kind: u8,
-        declared: u16,
-        image: &[u8],
-    ) -> Result<Result<Sheet, Refusal>, Stray> {
-        self.forget();
-        let mut sizes = [LINES, LINES];
-        sizes[which] -= 1;
-        let answer = self.call_sheet_with(kind, declared, image, sizes);
-        self.answer(answer)
+    /// As `reference::file_and_case`, but `None` where there is no line.
+    pub fn file_and_case(&self, index: u32) -> Result<Option<(u8, u8)>, Stray> {
+        let (mut number, mut file) = (STATE, STATE);
+        // SAFETY: two variables that live through the call.
+        match unsafe { suhluva_line(index, &mut number, &mut file) } {
+            0 => Ok(Some((file, number))),
+            2 if (number, file) == (STATE, STATE) => Ok(None),
+            2 => Err(Stray::Touched),
+            answer => Err(Stray::Answer(answer)),
+        }
     }
 
     fn answer(&self, answer: u32) -> Result<Result<Sheet, Refusal>, Stray> {
@@ -149,7 +138,6 @@ impl Door {
         }
         match answer {
             1 => Ok(Err(Refusal::Profile)),
-            3 => Ok(Err(Refusal::Short)),
             8 => Ok(Err(Refusal::Image { position: self.position()? })),
             answer => Err(Stray::Answer(answer)),
         }

@@ -45,8 +45,6 @@ pub struct Sheet {
 pub enum Refusal {
     /// The profile is not lawful.
     Profile,
-    /// An array handed over is too short. The reference takes none and never says this.
-    Short,
     /// The image is not well-formed: its first broken field starts at the position.
     Image { position: u32 },
 }
@@ -56,7 +54,6 @@ impl Refusal {
     pub fn number(self) -> u32 {
         match self {
             Refusal::Profile => 1,
-            Refusal::Short => 3,
             Refusal::Image { .. } => 8,
         }
     }

@@ -33,7 +33,6 @@ impl Tally {
                     Refusal::Profile if (1..=3).contains(&card.kind) => "the declared set",
                     Refusal::Profile if card.declared & 3 == 3 => "the kind",
                     Refusal::Profile => "both kind and set",
-                    Refusal::Short => "an array is too short",
                     Refusal::Image { position } => why_broken(&card.image, position as usize),
                 };
                 *self.refusals.entry((refusal.number(), why)).or_default() += 1;

@@ -1,4 +1,4 @@
-//! Times the verified library through the door, the reference, and a plain copy of the bytes:
+//! Times the verified library through its C interface, the reference, and a plain copy of the bytes:
 //! `bench [milliseconds for each measurement]`.
 //!
 //! Both judge the image where it stands and never touch the inside of a plain value. The copy is what it would take to

@@ -3,7 +3,7 @@
 use std::env;
 
 use suhluva_bench::cards::random_card;
-use suhluva_bench::reference::{Refusal, check_image, sheet};
+use suhluva_bench::reference::{LINES, Refusal, check_image, sheet};
 use suhluva_bench::tally::Tally;
 
 fn main() {
@@ -15,7 +15,7 @@ fn main() {
         let (sort, card) = random_card(seed, number);
         let result = sheet(card.kind, card.declared, &card.image);
         match (check_image(&card.image), &result) {
-            (Ok(()), Ok(sheet)) => assert_eq!(sheet.counts.iter().sum::<u32>(), 75),
+            (Ok(()), Ok(sheet)) => assert_eq!(sheet.counts.iter().sum::<u32>(), LINES as u32),
             (Err(at), Err(Refusal::Image { position })) => assert_eq!(at, *position),
             (_, Err(Refusal::Profile)) => {}
             other => panic!("card {number}: {other:?}"),

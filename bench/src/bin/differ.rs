@@ -8,7 +8,7 @@ use std::process::ExitCode;
 
 use suhluva_bench::cards::{Card, Sort, benchmark_cards, random_card};
 use suhluva_bench::door::Door;
-use suhluva_bench::reference::{Refusal, check_image, file_and_case, sheet};
+use suhluva_bench::reference::{LINES, check_image, file_and_case, sheet};
 use suhluva_bench::tally::Tally;
 
 fn main() -> ExitCode {
@@ -23,7 +23,7 @@ fn main() -> ExitCode {
             return ExitCode::FAILURE;
         }
     }
-    if !short_arrays_are_refused(&mut door) {
+    if !lines_are_the_same(&door) {
         return ExitCode::FAILURE;
     }
     for number in 0..cards {
@@ -83,12 +83,15 @@ fn say(what: &str, reference: &dyn Debug, library: &dyn Debug) {
     println!("{what}: the reference says {reference:?}, the library {library:?}");
 }
 
-fn short_arrays_are_refused(door: &mut Door) -> bool {
-    for which in 0..2 {
-        let found = door.sheet_with_short_array(which, 3, 3, &[]);
-        if found != Ok(Err(Refusal::Short)) {
-            println!("DIFFERENCE with array {which} too short");
-            say("sheet", &Refusal::Short, &found);
+/// Whether both name every line alike, and no line stands past the last.
+fn lines_are_the_same(door: &Door) -> bool {
+    for index in (0..=1024).chain([u32::MAX]) {
+        let line = usize::try_from(index).ok().filter(|line| *line < LINES).map(file_and_case);
+        let expected = line.map(|(file, case)| (file as u8, case as u8));
+        let found = door.file_and_case(index);
+        if found != Ok(expected) {
+            println!("DIFFERENCE in the line at {index}");
+            say("file and case", &expected, &found);
             return false;
         }
     }

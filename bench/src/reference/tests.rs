@@ -138,7 +138,6 @@ fn unlawful_profiles() {
         assert_eq!(sheet(kind, 3, &[0, 0, 0, 18]), Err(Refusal::Image { position: 3 }));
     }
     assert_eq!(Refusal::Profile.number(), 1);
-    assert_eq!(Refusal::Short.number(), 3);
     assert_eq!(Refusal::Image { position: 0 }.number(), 8);
 }
 
@@ -179,7 +178,7 @@ fn required_files_follow_the_declared_set() {
 
 #[test]
 fn the_order_of_the_lines() {
-    let order: Vec<_> = (0..75).map(file_and_case).collect();
+    let order: Vec<_> = (0..LINES).map(file_and_case).collect();
     assert_eq!(order[..4], [(0, 1), (0, 2), (0, 3), (1, 1)]);
     assert_eq!(order[53], (17, 3));
     assert_eq!(order[54..60], [(0, 4), (0, 5), (0, 6), (0, 7), (0, 8), (1, 9)]);

@@ -1,43 +1,35 @@
 -- Filling an array with the numbers of lines, one after the other.
-use Rattle.std.proofs.Common.{◌≡◌, ℕ, ◌+◌, ◌<◌, ◌≤◌, cond, List, length, get_or, sym, ap, ◌∙◌, subst, ⊎_elim, arith, eq-eqb, ne_eqb}
-use Rattle.std.proofs.lemmas.Bool.{cases_eq}
-use Rattle.card.specs.Cards.{Files}
-use Rattle.card.specs.Sheets.{HasLine, CardLines}
+use Rattle.std.proofs.Common.{◌≡◌, ℕ, ◌<◌, ◌≤◌, List, [], ◌∷◌, refl, length, get_or, map, ap, ◌∙◌, sym, arith}
+use Rattle.std.proofs.lemmas.List.{get_or-map, length-map}
+use Rattle.std.proofs.lemmas.Grind.{same_number_lists}
+use Rattle.card.specs.Cases.{HasLine, all_lines}
+use Rattle.card.specs.Sheets.{CardLines}
 use Rattle.card.specs.declared.line.Line.{Line}
 use Rattle.card.specs.declared.line.Line.TheVariants.{Open}
-use Rattle.sheet.specs.Tables.{place, line_in}
+use Rattle.sheet.specs.Sheets.{line_on, table_of}
+use Rattle.sheet.specs.Tables.{line_count}
 use Rattle.sheet.specs.declared.sheet.Sheet.{Sheet}
-use Rattle.sheet.proofs.Places.{within}
-use Rattle.verdict.specs.Verdicts.{AreFileLines, Judged, HoldsVerdict}
-use Rattle.c_api.specs.Door.{Each, Filled}
+use Rattle.sheet.proofs.Rows.{of_all}
+use Rattle.c_api.specs.Exports.{NumbersLines}
 
--- the first so many lines have their numbers, and what stands behind the 75 is as it was
-pub record FilledTo (number : Line → ℕ) (table : List Line) (count : ℕ) (before after : List ℕ) : Type 0 where
-  pub long : length after ≡ length before
-  pub each : (k : ℕ) → k < count → get_or after k 0 ≡ number (get_or table k Open)
-  pub behind : (k : ℕ) → 75 ≤ k → get_or after k 0 ≡ get_or before k 0
+-- the first so many lines have their numbers
+pub record FilledTo (number : Line → ℕ) (table : List Line) (many : ℕ) (array : List ℕ) : Type 0 where
+  pub long : length array ≡ line_count
+  pub each : (k : ℕ) → k < many → get_or array k 0 ≡ number (get_or table k Open)
+
+-- all have theirs
+pub filled : (number : Line → ℕ) (table : List Line) (many : ℕ) (array : List ℕ) → length table ≡ line_count → length table ≤ many
+    → FilledTo number table many array → array ≡ map number table
+filled number table many array l m f = same_number_lists array (map number table) (f.long ∙ sym (length-map table number ∙ l))
+    (λ k h. let a = f.long in f.each k (omega arith) ∙ sym (get_or-map number table k Open 0 (omega arith)))
+
+map_twice : {X : Type 0} → (number : Line → ℕ) (f : X → Line) (xs : List X) → map number (map f xs) ≡ map (λ x. number (f x)) xs
+map_twice number f [] = refl
+map_twice number f (x ∷ xs) = ap (λ ns. number (f x) ∷ ns) (map_twice number f xs)
 
 -- by case and file
-pub by_place : (number : Line → ℕ) (table : List Line) (lines : CardLines) (before after : List ℕ) → ((case file : ℕ) → HasLine case file → line_in table case file ≡ lines case file)
-    → Each number table before after → Filled number lines before after
-by_place number table lines before after same e = record {
-  lined = λ case file h. e.each (place case file) (within case file h) ∙ ap number (same case file h);
-  behind = e.behind;
-}
-
--- one file more on the sheet
-pub holds_more : (kind declared file : ℕ) (files : Files) (sheet sheet' : Sheet) → Judged kind declared file (files file) sheet sheet'
-    → ((f : ℕ) → f < file → HoldsVerdict kind declared f (files f) (λ case. line_in sheet.lines case f))
-    → (f : ℕ) → f < file + 1 → HoldsVerdict kind declared f (files f) (λ case. line_in sheet'.lines case f)
-holds_more kind declared file files sheet sheet' judged before f l = ⊎_elim
-    (λ (e : f ≡ file). record {
-      lines = judged.lines;
-      given = subst (λ n. AreFileLines kind declared n (files n) judged.lines) (sym e) judged.given;
-      same = λ case h. judged.written.each case f h ∙ ap (λ z. cond z (judged.lines case) (line_in sheet.lines case f)) (eq-eqb f file e);
-    })
-    (λ (n : f ≡ file → ⊥). let v = before f (omega arith) in record {
-      lines = v.lines;
-      given = v.given;
-      same = λ case h. judged.written.each case f h ∙ ap (λ z. cond z (judged.lines case) (line_in sheet.lines case f)) (ne_eqb f file n) ∙ v.same case h;
-    })
-    (cases_eq f file)
+pub by_place : (number : Line → ℕ) (sheet : Sheet) (table : List Line) (lines : CardLines) (array : List ℕ) → table ≡ table_of sheet
+    → ((case file : ℕ) → HasLine case file → line_on sheet case file ≡ lines case file) → array ≡ map number table → NumbersLines number lines array
+by_place number sheet table lines array t same e =
+    e ∙ ap (map number) t ∙ map_twice number (λ at. line_on sheet at.0 at.1) all_lines
+    ∙ of_all (λ at. number (line_on sheet at.0 at.1)) (λ at. number (lines at.0 at.1)) (λ c f h. ap number (same c f h))

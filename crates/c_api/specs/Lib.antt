@@ -1,1 +1,1 @@
-pub mod Door
+pub mod Exports

@@ -1,21 +1,17 @@
-//! The door for other languages: calls on numbers and slices, exported for C. `include/suhluva.h` declares them.
+//! The C interface: calls on numbers and slices, exported for C and whatever calls like C. `include/suhluva.h` declares them.
 #![tactic(auto)]
 
-ghost use Rattle.std.specs.Prelude.{◌≡◌, ℕ, ◌<◌, ◌≤◌, length};
-ghost use Rattle.image.specs.Checks.{files_at};
-ghost use Rattle.sheet.specs.Tables.{line_in};
-ghost use Rattle.verdict.specs.Verdicts.{HoldsVerdict};
+ghost use Rattle.std.specs.Prelude.{◌≡◌, length, map};
 ghost use Rattle.card.specs.Refusals.{valued};
 ghost use Rattle.image.specs.Numbers.{of_image};
-ghost use Rattle.c_api.specs.Door.{state_of, place_of, SameCounts, Checks, Makes, Each};
+ghost use Rattle.sheet.specs.Tables.{line_count};
+ghost use Rattle.c_api.specs.Exports.{state_of, place_of, SameCounts, ChecksImage, NamesLine, Position, sheet_call, Lent, MakesSheet};
 
-use card::{EF_SOD, Line, Numbered, Profile};
-use image::{Files, Image, ImageRefusal, files_of};
-use sheet::{LINES, Sheet, Tally};
-use verdict::write_verdict;
-
-/// The refusal of an array that has no room for the lines.
-const NO_ROOM: u32 = 3;
+use card::number::NOT_THERE;
+use card::{Line, Numbered, Profile};
+use cases::judge_card;
+use image::{Image, ImageRefusal, files_of};
+use sheet::{LINES, Sheet, Tally, line_at};
 
 // C's own struct of the counts: `Tally` has bytes, and no layout that C knows.
 /// How many lines pass, fail, are not applicable and are blocked.
@@ -46,7 +42,8 @@ impl From<Tally> for Counts {
 /// Checks an image: 0, or 8 with the start of the first field that breaks in `position`.
 #[unsafe(no_mangle)]
 pub extern "C" fn suhluva_check_image(image: &[u8], position: &mut u64) -> u32
-    ensures { Checks image.now position.old position.new result }
+    ensures { let told : Position = record { before = position.old; after = position.new } in
+        ChecksImage image.now told result }
 {
     match Image::check(image) {
         Ok(_) => 0,
@@ -54,33 +51,56 @@ pub extern "C" fn suhluva_check_image(image: &[u8], position: &mut u64) -> u32
     }
 }
 
+/// The case and the file of the line at this index of the arrays: 0, or 2 where there is no such line.
+#[unsafe(no_mangle)]
+pub extern "C" fn suhluva_line(index: u32, case_number: &mut u8, file: &mut u8) -> u32
+    ensures { NamesLine index (case_number.old, file.old) (case_number.new, file.new) result }
+{
+    let Some((case, of)) = line_at(index as usize) else {
+        return u32::from(NOT_THERE);
+    };
+    *case_number = case;
+    *file = of;
+    0
+}
+
 /// Makes the sheet of an image under a profile: the state and the place of each of the 75 lines, and the four counts.
-/// Answers 0, or refusal 1, 3 (an array has no room for 75 lines) or 8 with the position.
+/// Answers 0, or refusal 1, or 8 with the position.
 #[unsafe(no_mangle)]
 pub extern "C" fn suhluva_sheet(
     kind: u8,
     declared: u16,
     image: &[u8],
-    states: &mut [u8],
-    places: &mut [u64],
+    states: &mut [u8; LINES],
+    places: &mut [u64; LINES],
     counts: &mut Counts,
     position: &mut u64,
 ) -> u32
-    ensures { Makes kind declared image.now (record { states = states.entry.now; places = places.old; counts = counts.old; position = position.old }) (record { states = states.exit.now; places = places.new; counts = counts.new; position = position.new }) result }
+    ensures { let call = sheet_call kind declared image.now in
+        let before : Lent = record {
+          states = states.old;
+          places = places.old;
+          counts = counts.old;
+          position = position.old;
+        } in
+        let after : Lent = record {
+          states = states.new;
+          places = places.new;
+          counts = counts.new;
+          position = position.new;
+        } in
+        MakesSheet call before after result }
 {
     let profile = match Profile::new(kind, declared) {
         Ok(profile) => profile,
         Err(refusal) => return u32::from(refusal.number()),
     };
-    if states.len() < LINES || places.len() < LINES {
-        return NO_ROOM;
-    }
     let files = match files_of(image) {
         Ok(files) => files,
         Err(refusal) => return report(refusal, position),
     };
     let mut sheet = Sheet::new();
-    judge_all(&files, profile, &mut sheet);
+    judge_card(&mut sheet, &files, profile);
     write_lines(sheet.lines(), states, places);
     *counts = sheet.tally().into();
     0
@@ -96,21 +116,12 @@ fn report(refusal: ImageRefusal, position: &mut u64) -> u32
     u32::from(refusal.number())
 }
 
-/// Judges all files, and writes their lines into the sheet.
-fn judge_all(files: &Files<'_>, profile: Profile, sheet: &mut Sheet)
-    ensures { (file : ℕ) → file ≤ 17 → HoldsVerdict profile.kind profile.declared file (files_at files.now.by_number file) (λ case. line_in sheet.new.lines case file) }
-{
-    for file in 0..=EF_SOD {
-        write_verdict(sheet, file, files.get(file), profile);
-    }
-}
-
 // By the index, over the two arrays that C hands over: what is written through an adapter of `iter_mut` is not known afterwards.
 /// Writes the state and the place of each line.
-fn write_lines(lines: &[Line], states: &mut [u8], places: &mut [u64])
-    requires { (length lines.now ≡ 75) × (75 ≤ length states.old) × (75 ≤ length places.old) }
-    ensures states { Each state_of lines.now states.old states.new }
-    ensures places { Each place_of lines.now places.old places.new }
+fn write_lines(lines: &[Line], states: &mut [u8; LINES], places: &mut [u64; LINES])
+    requires { length lines.now ≡ line_count }
+    ensures states { states.new ≡ map state_of lines.now }
+    ensures places { places.new ≡ map place_of lines.now }
 {
     for (i, line) in lines.iter().enumerate() {
         states[i] = state_number(*line);

@@ -1,6 +1,8 @@
 -- A card: eighteen files by number, each absent or a string of bytes. File 0 is EF.COM, files 1 to 16 are DG1 to DG16,
 -- file 17 is EF.SOD.
-use Rattle.std.specs.Prelude.{ℕ, ◌≤◌, List, [], ◌∷◌, length, Some, None, Option, slice_index}
+use Rattle.std.specs.Prelude.{ℕ, ◌≤◌, List, [], ◌∷◌, length, Some, None, Option, slice_index, slice_index_or}
+use Rattle.std.specs.Borrow.{Bor}
+use Rattle.std.specs.Option.{option_map}
 
 -- the files of a card: which bytes a file has, if it is there
 abbrev pub Files : Type 0
@@ -16,10 +18,15 @@ abbrev pub content : Option (List ℕ) → List ℕ
 content None = []
 content (Some bs) = bs
 
+-- the files in a table, by their numbers
+abbrev pub files_at : List (Option (Bor (List ℕ))) → Files
+files_at table number = option_map (λ x. x.now) (slice_index_or table number None)
+
 -- the template tags of the files 0 to 17
 abbrev pub template_tags : List ℕ
 template_tags =
-    0x60 ∷ 0x61 ∷ 0x75 ∷ 0x63 ∷ 0x76 ∷ 0x65 ∷ 0x66 ∷ 0x67 ∷ 0x68 ∷ 0x69 ∷ 0x6a ∷ 0x6b ∷ 0x6c ∷ 0x6d ∷ 0x6e ∷ 0x6f ∷ 0x70 ∷ 0x77 ∷ []
+    0x60 ∷ 0x61 ∷ 0x75 ∷ 0x63 ∷ 0x76 ∷ 0x65 ∷ 0x66 ∷ 0x67 ∷ 0x68
+    ∷ 0x69 ∷ 0x6a ∷ 0x6b ∷ 0x6c ∷ 0x6d ∷ 0x6e ∷ 0x6f ∷ 0x70 ∷ 0x77 ∷ []
 
 -- the template tag of a file
 abbrev pub template_tag_of : ℕ → ℕ

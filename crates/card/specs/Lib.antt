@@ -1,7 +1,10 @@
 pub mod Sets
 pub mod Cards
+pub mod Purposes
+pub mod ProfileNumbers
 pub mod Profiles
 pub mod Refusals
 pub mod Numbers
 pub mod Lines
+pub mod Cases
 pub mod Sheets

@@ -1,11 +1,11 @@
 -- What a line says of its case, and how a failed case blocks later ones.
-use Rattle.std.specs.Prelude.{ℕ, Bool, cond}
+use Rattle.std.specs.Prelude.{ℕ, Bool, if◌then◌else◌}
 use Rattle.card.specs.declared.line.Line.{Line}
 use Rattle.card.specs.declared.line.Line.TheVariants.{Open, Pass, Fail, NotApplicable, Blocked}
 
 -- the line of a case that is judged: it passes, or fails at this place
 abbrev pub line_of : Bool → ℕ → Line
-line_of passes place = cond passes Pass (Fail place)
+line_of passes place = if passes then Pass else Fail place
 
 -- A line that is judged passes exactly if P holds. Where P does not hold it fails, at a place of which At holds.
 abbrev pub Says : Line → Type 0 → (ℕ → Type 0) → Type 0

@@ -4,4 +4,4 @@ use Rattle.card.specs.declared.refusal.ProfileRefusal.{ProfileRefusal}
 use Rattle.card.specs.declared.refusal.ProfileRefusal.TheVariants.{Unlawful}
 
 abbrev pub of_profile : ProfileRefusal → Refusal
-of_profile Unlawful = bare 1
+of_profile (Unlawful kind declared) = bare 1

@@ -1,21 +1,32 @@
--- Profiles: which are lawful, and which files one requires.
-use Rattle.std.specs.Prelude.{◌≡◌, ℕ, ◌-◌, ◌≤◌, Bool, true, cond, ◌&&◌, ◌||◌, ◌==◌, nat_le}
+-- Profiles: their kind of zone, and which files one declares and requires. A profile goes whole from place to place; these
+-- words are all that is asked of one.
+use Rattle.std.specs.Prelude.{◌≡◌, ℕ, ◌-◌, Bool, ◌&&◌, ◌||◌, ◌==◌, nat_le, if◌then◌else◌}
 use Rattle.card.specs.Sets.{has}
+use Rattle.card.specs.ProfileNumbers.{LawfulProfile}
 use Rattle.card.specs.declared.profile.Kind.{Kind}
 use Rattle.card.specs.declared.profile.Kind.TheVariants.{Td1, Td2, Td3}
+use Rattle.card.specs.declared.profile.Profile.{Profile}
 
--- a kind from 1 to 3 (TD1 to TD3), and a declared set that contains DG1 (bit 0) and DG2 (bit 1)
-abbrev pub Lawful : ℕ → ℕ → Type 0
-Lawful kind declared = (1 ≤ kind) × (kind ≤ 3) × (has declared 0 ≡ true) × (has declared 1 ≡ true)
+-- the number of its kind of zone, 1 to 3 for TD1 to TD3, and its declared set, whose bit 0 is DG1
+abbrev pub kind_number : Profile → ℕ
+kind_number profile = profile.kind
 
--- the kind of zone that a number names: 1 is TD1, 2 is TD2, 3 is TD3
-abbrev pub kind_of : ℕ → Kind
-kind_of kind = cond (kind == 1) Td1 (cond (kind == 2) Td2 Td3)
+abbrev pub declared_set : Profile → ℕ
+declared_set profile = profile.declared
 
--- whether the data group of this file number, 1 to 16, is in a declared set
-abbrev pub declares : ℕ → ℕ → Bool
-declares declared file = nat_le 1 file && (nat_le file 16 && has declared (file - 1))
+-- the profile of a kind and a declared set, which are lawful
+abbrev pub IsProfileOf : ℕ → ℕ → Profile → Type 0
+IsProfileOf kind declared profile =
+    LawfulProfile kind declared × (kind_number profile ≡ kind) × (declared_set profile ≡ declared)
+
+-- the kind of zone by its name: 1 is TD1, 2 is TD2, 3 is TD3
+abbrev pub kind_of : Profile → Kind
+kind_of profile = if profile.kind == 1 then Td1 else (if profile.kind == 2 then Td2 else Td3)
+
+-- whether it declares the data group of this file number, 1 to 16
+abbrev pub declares : Profile → ℕ → Bool
+declares profile file = nat_le 1 file && (nat_le file 16 && has profile.declared (file - 1))
 
 -- the files that a card must have: EF.COM, EF.SOD and each declared data group
-abbrev pub required : ℕ → ℕ → Bool
-required declared file = file == 0 || (file == 17 || declares declared file)
+abbrev pub required : Profile → ℕ → Bool
+required profile file = file == 0 || (file == 17 || declares profile file)

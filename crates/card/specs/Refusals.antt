@@ -1,7 +1,7 @@
 -- Numbered refusals, and the order in which a call tries them.
 use Rattle.std.specs.Prelude.{ℕ, List, [], ◌∷◌, MatchBool, ◌==◌, slice_index}
 
--- what both halls see of a refusal: its number, and the values that come with it
+-- what is seen of a refusal: its number, and the values that come with it
 pub record Refusal : Type 0 where
   pub number : ℕ
   pub values : List ℕ

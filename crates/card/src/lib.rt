@@ -3,12 +3,18 @@
 //! Everything else stands on this crate.
 #![tactic(auto)]
 
+pub mod cases;
 pub mod files;
 pub mod line;
+pub mod number;
 pub mod profile;
 pub mod refusal;
 
-pub use files::{DG1, DG2, EF_COM, EF_SOD, FILES, LONGEST, TEMPLATE_TAGS, template_tag};
+pub use cases::{CaseRow, OWN_CASES, SHARED_CASES};
+pub use files::{
+    CardFiles, DG1, DG2, EF_COM, EF_SOD, FILES, LONGEST, Purpose, TEMPLATE_TAGS, file_purpose,
+    template_tag,
+};
 pub use line::{Failure, Line};
 pub use profile::{Kind, Profile};
 pub use refusal::{Numbered, ProfileRefusal};

@@ -1,10 +1,8 @@
 //! The profile that a card is judged under. No profile exists that is not lawful, so nothing that takes one can refuse it.
 //! Its two parts are plain numbers: the kind of zone, and a set of data groups.
-ghost use Rattle.std.specs.Prelude.{◌≡◌, ℕ, ◌<◌, MatchResult};
+ghost use Rattle.std.specs.Prelude.{◌≡◌, ◌<◌, MatchResult, IfErr};
 ghost use Rattle.card.specs.Sets.{has};
-ghost use Rattle.card.specs.Profiles.{Lawful, kind_of, required};
-ghost use Rattle.card.specs.Refusals.{Unless, no_other};
-ghost use Rattle.card.specs.Numbers.{of_profile};
+ghost use Rattle.card.specs.ProfileNumbers.{LawfulProfile};
 
 use crate::files::{EF_COM, EF_SOD};
 use crate::refusal::ProfileRefusal;
@@ -29,31 +27,38 @@ pub enum Kind {
 pub struct Profile {
     kind: u8,
     declared: u16,
-    ghost lawful: { Lawful kind declared },
+    ghost lawful: { LawfulProfile kind declared },
     ghost sixteen_bits: { declared < 65536 },
 }
 
 impl Profile {
+    ghost use Rattle.card.specs.Refusals.{Unless, no_other};
+    ghost use Rattle.card.specs.Numbers.{of_profile};
+    ghost use Rattle.card.specs.declared.refusal.ProfileRefusal.TheVariants.{Unlawful};
+    ghost use Rattle.card.specs.Profiles.{IsProfileOf, kind_number, declared_set, kind_of, required};
+
     /// The profile of a kind and a declared set, whose bit 0 is DG1 and bit 15 is DG16.
     pub fn new(kind: u8, declared: u16) -> Result<Profile, ProfileRefusal>
-        ensures { MatchResult result (λ p. Lawful kind declared × (p.kind ≡ kind) × (p.declared ≡ declared)) (λ e. Unless 1 (Lawful kind declared) no_other (of_profile e)) }
+        ensures made { MatchResult result (IsProfileOf kind declared)
+            (λ refusal. Unless 1 (LawfulProfile kind declared) no_other (of_profile refusal)) }
+        ensures named { IfErr result (λ refusal. refusal ≡ Unlawful kind declared) }
     {
         if kind == 0 || kind > LAST_KIND || !has_bit(declared, 0) || !has_bit(declared, 1) {
-            return Err(ProfileRefusal::Unlawful);
+            return Err(ProfileRefusal::Unlawful { kind, declared });
         }
         Ok(Profile { kind, declared })
     }
 
     /// The kind of zone, 1 to 3 for TD1 to TD3.
     pub fn kind(self) -> u8
-        ensures { result ≡ self.kind }
+        ensures { result ≡ kind_number self }
     {
         self.kind
     }
 
     /// The kind of zone by its name.
     pub fn zone_kind(self) -> Kind
-        ensures { result ≡ kind_of self.kind }
+        ensures { result ≡ kind_of self }
     {
         match self.kind {
             1 => Kind::Td1,
@@ -64,14 +69,14 @@ impl Profile {
 
     /// The declared set: bit 0 is DG1, bit 15 is DG16.
     pub fn declared(self) -> u16
-        ensures { result ≡ self.declared }
+        ensures { result ≡ declared_set self }
     {
         self.declared
     }
 
     /// Whether a card must have this file: EF.COM, EF.SOD and each declared data group.
     pub fn required(self, file: u8) -> bool
-        ensures { result ≡ required self.declared file }
+        ensures { result ≡ required self file }
     {
         match file {
             EF_COM | EF_SOD => true,

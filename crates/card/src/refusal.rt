@@ -1,12 +1,12 @@
-//! What refusals have in common, and why a profile is refused.
+//! What refusals have in common, and why two numbers make no profile.
 ghost use Rattle.std.specs.Prelude.{◌≡◌};
 ghost use Rattle.card.specs.Refusals.{Refusal};
 ghost use Rattle.card.specs.Numbers.{of_profile};
 
-use std::error::Error;
-use std::fmt;
+use crate::number::NO_PROFILE;
+use thiserror::Error;
 
-/// A refusal with a number, by which both halls know it.
+/// A refusal with a number, by which whoever compares two sheets knows it.
 pub trait Numbered {
     /// Which number and values belong to it.
     ghost refusal: { Self → Refusal };
@@ -17,10 +17,11 @@ pub trait Numbered {
 }
 
 /// Why two numbers make no profile.
-#[derive(Clone, Copy, Debug, PartialEq, Eq)]
+#[derive(Clone, Copy, Debug, PartialEq, Eq, Error)]
 pub enum ProfileRefusal {
     /// The kind is not from 1 to 3, or the declared set lacks DG1 or DG2.
-    Unlawful,
+    #[error("refusal {n}: there is no profile of kind {kind} with the set {declared:04X}", n = NO_PROFILE)]
+    Unlawful { kind: u8, declared: u16 },
 }
 
 impl Numbered for ProfileRefusal {
@@ -28,15 +29,7 @@ impl Numbered for ProfileRefusal {
 
     fn number(self) -> u8 {
         match self {
-            ProfileRefusal::Unlawful => 1,
+            ProfileRefusal::Unlawful { .. } => NO_PROFILE,
         }
     }
 }
-
-impl fmt::Display for ProfileRefusal {
-    fn fmt<W: fmt::Write>(&self, f: &mut fmt::Formatter<W>) -> fmt::Result {
-        write!(f, "refusal {}, there is no such profile", self.number())
-    }
-}
-
-impl Error for ProfileRefusal {}

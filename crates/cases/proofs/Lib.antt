@@ -1,4 +1,14 @@
 pub mod Templates
 pub mod Structures
 pub mod Tags
+pub mod Gates
+pub mod FailingPlaces
+pub mod Agreeing
+pub mod OnceStructured
+pub mod Commons
+pub mod Zones
+pub mod Faces
+pub mod Verdicts
+pub mod Cards
+pub mod Purposes
 pub mod Worked

@@ -1,5 +1,5 @@
 -- The worked rows follow from the definitions.
-use Rattle.std.proofs.Common.{◌≡◌, ℕ, ◌+◌, min, List, [], ◌∷◌, ◌++◌, length, Some, codes, Option, sym, refl, ap, ◌∙◌, subst, inl, inr, arith, rules}
+use Rattle.std.proofs.Common.{◌≡◌, ℕ, ◌+◌, min, cond, eqb, List, [], ◌∷◌, ◌++◌, length, Some, codes, Option, sym, refl, ap, ◌∙◌, subst, inl, inr, arith, rules}
 use Rattle.card.specs.Lines.{Says, Gates}
 use Rattle.card.specs.declared.line.Line.{Line}
 use Rattle.card.specs.declared.line.Line.TheVariants.{Open, Pass, Fail, NotApplicable, Blocked}
@@ -9,8 +9,11 @@ use Rattle.object.specs.Trees.{none, more, nested, Tiled, Broken, here, First}
 use Rattle.object.proofs.Laws.{len_law, same, begins_head, begins_long}
 use Rattle.object.proofs.Trees.{sound, low}
 use Rattle.cases.specs.Templates.{One, Off, other_tag, no_length, other_end}
-use Rattle.cases.specs.Structures.{Framed}
-use Rattle.cases.specs.Rows.{IsTemplateLine, Six, StructureRows, ZoneRows, Rows}
+use Rattle.card.specs.declared.profile.Profile.{Profile}
+use Rattle.cases.specs.Files.{FreeTemplate, no_cases}
+use Rattle.cases.specs.Structures.{Framed, Structured}
+use Rattle.cases.specs.Verdicts.{Lines, structure_of}
+use Rattle.cases.specs.Rows.{Gives, Six, StructureRows, ZoneRows, Rows}
 use Rattle.cases.specs.declared.structure.Structure.{Structure}
 use Rattle.cases.proofs.Templates.{fails, off_length}
 use Rattle.cases.proofs.Tags.{tag_short}
@@ -63,25 +66,53 @@ off_once tag xs p q (other_end k r l e d) (other_end j s m f c) =
     let n : k ≡ j = ap (λ (x : ℕ × ℕ). x.0) i in
     ap (λ z. min (1 + length (length_bytes z) + z) (length xs)) n
 
--- a template, by its bytes
+-- lines of the cases 1 to 3, by their numbers
+abbrev three : Line → Line → Line → Lines
+three present template tiling case = cond (eqb case 1) present (cond (eqb case 2) template tiling)
+
+-- the template of DG13, by its bytes
 begins_13 : Begins (0x6D ∷ 0x00 ∷ []) 0x6D [] []
 begins_13 = record { lawful = inl (tag_short 13 (omega arith)); small = omega arith; written = refl }
 
-at_13 : (xs : List ℕ) (place : ℕ) → Off 0x6D xs place → IsTemplateLine 13 xs (Fail place)
-at_13 xs place o lines s = says_fail lines.template (One 0x6D xs) (Off 0x6D xs) place s.1.1 (fails (tag_short 13 (omega arith)) o).0 (λ q p. off_once 0x6D xs q place p o)
+-- the line of case 2 of DG13 where it is declared
+case_2 : (bytes : List ℕ) (line : Line) → Says line (One 0x6D bytes) (Off 0x6D bytes) → ((other : Line) → Says other (One 0x6D bytes) (Off 0x6D bytes) → other ≡ line) → Gives 13 bytes 2 line
+case_2 bytes line says only profile declared = record {
+  lines = three Pass line NotApplicable;
+  given = (refl, subst (λ b. FreeTemplate b (Some bytes) (structure_of (three Pass line NotApplicable))) (sym declared) (refl, says));
+  line_is = refl;
+  no_other = λ others g. only (others 2) (subst (λ b. FreeTemplate b (Some bytes) (structure_of others)) declared g.1).1;
+}
+
+fails_13 : (bytes : List ℕ) (place : ℕ) → Off 0x6D bytes place → Gives 13 bytes 2 (Fail place)
+fails_13 bytes place o =
+    let none = (fails (tag_short 13 (omega arith)) o).0 in
+    case_2 bytes (Fail place) (none, o) (λ line s. says_fail line (One 0x6D bytes) (Off 0x6D bytes) place s none (λ q p. off_once 0x6D bytes q place p o))
 
 -- DG15 with a value of two bytes
 one_15 : (a b : ℕ) → Begins (0x6F ∷ 0x02 ∷ a ∷ b ∷ []) 0x6F (a ∷ b ∷ []) []
 one_15 a b = record { lawful = inl (tag_short 15 (omega arith)); small = omega arith; written = refl }
 
 -- the value of DG15's template is what it is, and stands at 2
-tiling_says : (a b : ℕ) (lines : Structure) → Framed 0x6F (0x6F ∷ 0x02 ∷ a ∷ b ∷ []) lines (λ _ _. Unit {0}) (Unit {0}) → Says lines.tiling (Tiled 15 (a ∷ b ∷ [])) (First 15 2 (a ∷ b ∷ []))
+tiling_says : (a b : ℕ) (lines : Structure) → Framed 0x6F (0x6F ∷ 0x02 ∷ a ∷ b ∷ []) lines no_cases → Says lines.tiling (Tiled 15 (a ∷ b ∷ [])) (First 15 2 (a ∷ b ∷ []))
 unfolding header_size
 tiling_says a b lines f =
     let one : One 0x6F (0x6F ∷ 0x02 ∷ a ∷ b ∷ []) = (a ∷ b ∷ [], one_15 a b) in
     let g = gates_next lines.template _ _ _ _ f one in
     let e : g.0.0 ≡ a ∷ b ∷ [] = (same g.0.1 (one_15 a b)).1 in
     subst (λ v. Says lines.tiling (Tiled 15 v) (First 15 (header_size 0x6F v) v)) e (gates_says lines.tiling _ _ _ _ g.1)
+
+-- the line of case 3 of DG15 where it is declared
+case_3 : (a b : ℕ) (line : Line) → Gates line (Tiled 15 (a ∷ b ∷ [])) (First 15 2 (a ∷ b ∷ [])) (λ _. Unit {0}) (Unit {0})
+    → ((other : Line) → Says other (Tiled 15 (a ∷ b ∷ [])) (First 15 2 (a ∷ b ∷ [])) → other ≡ line) → Gives 15 (0x6F ∷ 0x02 ∷ a ∷ b ∷ []) 3 line
+unfolding header_size
+case_3 a b line gates only profile declared =
+    let bytes = 0x6F ∷ 0x02 ∷ a ∷ b ∷ [] in
+    record {
+      lines = three Pass Pass line;
+      given = subst (λ r. Structured 0x6F r (Some bytes) (structure_of (three Pass Pass line)) no_cases) (sym declared) (refl, ((a ∷ b ∷ [], one_15 a b), gates));
+      line_is = refl;
+      no_other = λ others g. only (others 3) (tiling_says a b (structure_of others) (subst (λ r. Structured 0x6F r (Some bytes) (structure_of others) no_cases) declared g).1);
+    }
 
 tree_30 : Tiled 15 (0x30 ∷ 0x00 ∷ [])
 unfolding nests
@@ -98,16 +129,22 @@ unread_30 tag value rest b =
 broken_30 : Broken 15 2 (0x30 ∷ 0x01 ∷ []) 2
 broken_30 = here (omega arith) (inr unread_30)
 
+-- a profile that declares DG13 and DG15 beside DG1 and DG2
+both_declared : Profile
+both_declared = record { kind = 3; declared = 0x5003; lawful = (omega arith, omega arith, refl, refl); sixteen_bits = omega arith }
+
 structure_rows : StructureRows
+unfolding both_declared
 structure_rows = record {
-  empty_template = λ lines s. says_pass lines.template (One 0x6D (0x6D ∷ 0x00 ∷ [])) (Off 0x6D (0x6D ∷ 0x00 ∷ [])) s.1.1 ([], begins_13);
-  length_80 = at_13 (0x6D ∷ 0x80 ∷ []) 1 (off_length 0x6D (0x6D ∷ 0x80 ∷ []) (0x80 ∷ []) refl refl);
-  ends_early = at_13 (0x6D ∷ 0x01 ∷ 0x00 ∷ 0x00 ∷ []) 3 (other_end 1 (0x00 ∷ 0x00 ∷ []) (omega arith) refl (λ e. omega arith));
-  ends_late = at_13 (0x6D ∷ 0x02 ∷ 0x00 ∷ []) 3 (other_end 2 (0x00 ∷ []) (omega arith) refl (λ e. omega arith));
-  tiled = λ lines s. says_pass lines.tiling (Tiled 15 (0x30 ∷ 0x00 ∷ [])) (First 15 2 (0x30 ∷ 0x00 ∷ [])) (tiling_says 0x30 0x00 lines s.1) tree_30;
-  passes_the_end = λ lines s.
-      says_fail lines.tiling (Tiled 15 (0x30 ∷ 0x01 ∷ [])) (First 15 2 (0x30 ∷ 0x01 ∷ [])) 2 (tiling_says 0x30 0x01 lines s.1) (λ t. sound broken_30 t)
-      (λ q f. let a = f.least 2 broken_30 in let b = low f.is_broken in omega arith);
+  profile = both_declared;
+  declares_both = (refl, refl);
+  empty_template = case_2 (0x6D ∷ 0x00 ∷ []) Pass ([], begins_13) (λ line s. says_pass line (One 0x6D (0x6D ∷ 0x00 ∷ [])) (Off 0x6D (0x6D ∷ 0x00 ∷ [])) s ([], begins_13));
+  length_80 = fails_13 (0x6D ∷ 0x80 ∷ []) 1 (off_length 0x6D (0x6D ∷ 0x80 ∷ []) (0x80 ∷ []) refl refl);
+  ends_early = fails_13 (0x6D ∷ 0x01 ∷ 0x00 ∷ 0x00 ∷ []) 3 (other_end 1 (0x00 ∷ 0x00 ∷ []) (omega arith) refl (λ e. omega arith));
+  ends_late = fails_13 (0x6D ∷ 0x02 ∷ 0x00 ∷ []) 3 (other_end 2 (0x00 ∷ []) (omega arith) refl (λ e. omega arith));
+  tiled = case_3 0x30 0x00 Pass (tree_30, tt) (λ line s. says_pass line (Tiled 15 (0x30 ∷ 0x00 ∷ [])) (First 15 2 (0x30 ∷ 0x00 ∷ [])) s tree_30);
+  passes_the_end = case_3 0x30 0x01 (Fail 2) (λ t. sound broken_30 t, record { is_broken = broken_30; least = λ other b. low b }, tt)
+      (λ line s. says_fail line (Tiled 15 (0x30 ∷ 0x01 ∷ [])) (First 15 2 (0x30 ∷ 0x01 ∷ [])) 2 s (λ t. sound broken_30 t) (λ q f. let a = f.least 2 broken_30 in let b = low f.is_broken in omega arith));
 }
 
 day_2 : Six (codes "7408122")

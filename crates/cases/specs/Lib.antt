@@ -1,5 +1,5 @@
 pub mod Templates
 pub mod Structures
-pub mod Groups
 pub mod Files
+pub mod Verdicts
 pub mod Rows

@@ -1,7 +1,7 @@
 //! Case 2: a file is its template and nothing more.
 ghost use Rattle.std.specs.Prelude.{◌≡◌, MatchResult};
 ghost use Rattle.object.specs.Objects.{ShortTag};
-ghost use Rattle.cases.specs.Templates.{One, Off, Opens};
+ghost use Rattle.cases.specs.Templates.{OpensAt, FailsAt};
 
 use card::Failure;
 use object::{Reader, read_length};
@@ -9,7 +9,8 @@ use object::{Reader, read_length};
 /// A reader at the value of the file's template, or the place at which case 2 fails.
 pub(crate) fn open_template(bytes: &[u8], tag: u8) -> Result<Reader<'_>, Failure>
     requires { ShortTag tag }
-    ensures { MatchResult result (λ reader. (reader.bytes.now ≡ bytes.now) × Opens tag bytes.now reader.position) (λ failure. (One tag bytes.now → ⊥) × Off tag bytes.now failure.place) }
+    ensures { MatchResult result (OpensAt tag bytes.now)
+        (λ failure. FailsAt tag bytes.now failure.place) }
 {
     let Some(rest) = bytes.strip_prefix(&[tag]) else {
         return Err(Failure { place: 0 });
@@ -23,8 +24,5 @@ pub(crate) fn open_template(bytes: &[u8], tag: u8) -> Result<Reader<'_>, Failure
             place: end.min(bytes.len()),
         });
     }
-    Ok(Reader {
-        bytes,
-        position: 1 + size,
-    })
+    Ok(Reader::starting(bytes, 1 + size))
 }

@@ -1,17 +1,12 @@
 //! The deepest file and the largest ones, which are walked in one pass.
-use card::{Line, Profile};
-use cases::judge_structure;
+use crate::line;
+use card::Line;
 use std::alloc::{AllocError, Global};
 use std::test::Fail;
 
 /// The line of case 3 of DG15.
 fn tiling(bytes: &[u8]) -> Result<Line, Fail> {
-    let profile = Profile::new(3, 0x4003)?;
-    Ok(
-        judge_structure(15, Some(bytes), profile)
-            .ok_or("no such file")?
-            .tiling,
-    )
+    line(0x4003, 3, 15, Some(bytes))
 }
 
 /// DG15 with so many objects 30, each inside the one before it.

@@ -4,6 +4,6 @@ use Rattle.changed.specs.declared.change.ChangeRefusal.{ChangeRefusal}
 use Rattle.changed.specs.declared.change.ChangeRefusal.TheVariants.{NoFile, NoPlace, Full}
 
 abbrev pub of_change : ChangeRefusal → Refusal
-of_change NoFile = bare 2
-of_change NoPlace = bare 10
+of_change (NoFile file) = bare 2
+of_change (NoPlace place) = bare 10
 of_change Full = bare 9

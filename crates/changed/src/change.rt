@@ -7,8 +7,8 @@ ghost use Rattle.changed.specs.declared.change.ChangeRefusal.TheVariants.{Full};
 
 use arrayvec::CapacityError;
 use card::Numbered;
-use std::error::Error;
-use std::fmt;
+use card::number::{FULL, NO_PLACE, NOT_THERE};
+use thiserror::Error;
 
 /// A change of a card's files.
 #[derive(Clone, Copy, Debug, PartialEq, Eq)]
@@ -62,13 +62,16 @@ impl Change {
 }
 
 /// Why a change is refused.
-#[derive(Clone, Copy, Debug, PartialEq, Eq)]
+#[derive(Clone, Copy, Debug, PartialEq, Eq, Error)]
 pub enum ChangeRefusal {
     /// A card has no file of this number.
-    NoFile,
+    #[error("refusal {n}: there is no file {file}", n = NOT_THERE)]
+    NoFile { file: u8 },
     /// No file reaches to this place.
-    NoPlace,
+    #[error("refusal {n}: no file has a byte at place {place}", n = NO_PLACE)]
+    NoPlace { place: u16 },
     /// The source has as many changes as it takes.
+    #[error("refusal {n}: there are sixteen changes already", n = FULL)]
     Full,
 }
 
@@ -77,20 +80,12 @@ impl Numbered for ChangeRefusal {
 
     fn number(self) -> u8 {
         match self {
-            ChangeRefusal::NoFile => 2,
-            ChangeRefusal::NoPlace => 10,
-            ChangeRefusal::Full => 9,
+            ChangeRefusal::NoFile { .. } => NOT_THERE,
+            ChangeRefusal::NoPlace { .. } => NO_PLACE,
+            ChangeRefusal::Full => FULL,
         }
     }
 }
-
-impl fmt::Display for ChangeRefusal {
-    fn fmt<W: fmt::Write>(&self, f: &mut fmt::Formatter<W>) -> fmt::Result {
-        write!(f, "refusal {}", self.number())
-    }
-}
-
-impl Error for ChangeRefusal {}
 
 impl From<CapacityError<Change>> for ChangeRefusal {
     ghost from_gives = { λ _ refusal. refusal ≡ Full };

@@ -1,9 +1,10 @@
 //! The changed source: its files are those of the source below with the changes laid on, one after the other.
 //! It asks below for whatever it is asked for itself, also of a file that is removed.
-ghost use Rattle.std.specs.Prelude.{◌≡◌, ℕ, ◌+◌, [], length, Option, Result, OnErr, OnOk};
-ghost use Rattle.changed.specs.Changes.{Adds, removed, with_settings, laid_on, laid_on_short};
-ghost use Rattle.changed.specs.Calls.{Removes, Sets, passed_on};
-ghost use Rattle.source.specs.declared.read.Fault.{Fault};
+ghost use Rattle.std.specs.Prelude.{◌≡◌, ◌+◌, [], IfErr, OnErr, OnOk};
+ghost use Rattle.changed.specs.Changes.{AddsChange, removed, with_settings};
+ghost use Rattle.changed.specs.Calls.{Removes, Sets, setting, NamesFile, NamesPlace};
+ghost use Rattle.changed.specs.declared.change.ChangeRefusal.TheVariants.{Full};
+ghost use Rattle.changed.specs.Calls.{below_of, changes_of, change_count, changed_files, changed_short, ChangedReads};
 
 use crate::change::{Change, ChangeRefusal};
 use arrayvec::ArrayVec;
@@ -27,9 +28,9 @@ pub struct Changed<S> {
 impl<S: Source> Changed<S> {
     /// A source without changes.
     pub fn over(below: S) -> Changed<S>
-        ensures below { result.below ≡ below }
-        ensures files { laid_on result.changes.items (S.files result.below) ≡ S.files below }
-        ensures none { result.changes.items ≡ [] }
+        ensures below { below_of result ≡ below }
+        ensures files { changed_files S.files result ≡ S.files below }
+        ensures none { changes_of result ≡ [] }
     {
         Changed {
             below,
@@ -41,38 +42,44 @@ impl<S: Source> Changed<S> {
 
     /// Removes a file for good.
     pub fn remove(&mut self, file: u8) -> Result<(), ChangeRefusal>
-        ensures removes { Removes file (length self.old.changes.items) (laid_on self.old.changes.items (S.files self.old.below)) (laid_on self.new.changes.items (S.files self.new.below)) result }
-        ensures count { OnOk result (length self.new.changes.items ≡ length self.old.changes.items + 1) }
-        ensures below { self.new.below ≡ self.old.below }
+        ensures removes { Removes file (change_count self.old) (changed_files S.files self.old)
+            (changed_files S.files self.new) result }
+        ensures count { OnOk result (change_count self.new ≡ change_count self.old + 1) }
+        ensures below { below_of self.new ≡ below_of self.old }
         ensures still { OnErr result (self.new ≡ self.old) }
+        ensures named { IfErr result (NamesFile file) }
     {
         if file > EF_SOD {
-            return Err(ChangeRefusal::NoFile);
+            return Err(ChangeRefusal::NoFile { file });
         }
         self.add(Change::Remove { file })
     }
 
     /// Sets the byte at a place of a file; at or past the file's end, or in an absent file, that does nothing.
     pub fn set(&mut self, file: u8, place: u16, byte: u8) -> Result<(), ChangeRefusal>
-        ensures sets { Sets file place byte (length self.old.changes.items) (laid_on self.old.changes.items (S.files self.old.below)) (laid_on self.new.changes.items (S.files self.new.below)) result }
-        ensures count { OnOk result (length self.new.changes.items ≡ length self.old.changes.items + 1) }
-        ensures below { self.new.below ≡ self.old.below }
+        ensures sets { Sets (setting file place byte) (change_count self.old)
+            (changed_files S.files self.old) (changed_files S.files self.new) result }
+        ensures count { OnOk result (change_count self.new ≡ change_count self.old + 1) }
+        ensures below { below_of self.new ≡ below_of self.old }
         ensures still { OnErr result (self.new ≡ self.old) }
+        ensures named { IfErr result (λ refusal.
+            NamesFile file refusal × NamesPlace place refusal) }
     {
         if file > EF_SOD {
-            return Err(ChangeRefusal::NoFile);
+            return Err(ChangeRefusal::NoFile { file });
         }
         if place > LAST_PLACE {
-            return Err(ChangeRefusal::NoPlace);
+            return Err(ChangeRefusal::NoPlace { place });
         }
         self.add(Change::Set { file, place, byte })
     }
 
     /// Adds a change after the others.
     fn add(&mut self, change: Change) -> Result<(), ChangeRefusal>
-        ensures adds { Adds «change» self.old.changes.items self.new.changes.items result }
-        ensures below { self.new.below ≡ self.old.below }
+        ensures adds { AddsChange «change» (changes_of self.old) (changes_of self.new) result }
+        ensures below { below_of self.new ≡ below_of self.old }
         ensures still { OnErr result (self.new ≡ self.old) }
+        ensures full { IfErr result (λ refusal. refusal ≡ Full) }
     {
         self.changes.try_push(change)?;
         Ok(())
@@ -96,15 +103,13 @@ fn lay_all_on(changes: &[Change], file: u8, from: u16, part: &mut [u8])
 }
 
 impl<S: Source> Source for Changed<S> {
-    ghost files = { λ s. laid_on s.changes.items (S.Source.files s.below) };
+    ghost files = { changed_files S.Source.files };
 
-    ghost lost = { λ s. S.Source.lost s.below };
+    ghost lost = { λ s. S.Source.lost (below_of s) };
 
-    ghost bounded = { λ s f. laid_on_short s.changes.items (S.Source.files s.below) f (S.Source.bounded s.below f) };
+    ghost bounded = { changed_short S.Source.files S.Source.bounded };
 
-    ghost steps = { λ s file place wanted t. S.Source.steps s.below file place wanted t.below × (t.changes ≡ s.changes) };
-
-    ghost outcomes = { λ s file place wanted r t. ((below : Result (Option ℕ) Fault) × S.Source.outcomes s.below file place wanted below t.below × (r ≡ passed_on (removed s.changes.items file) below)) × (t.changes ≡ s.changes) };
+    ghost outcomes = { ChangedReads S.Source.outcomes };
 
     fn read(
         &mut self,

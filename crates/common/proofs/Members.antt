@@ -9,7 +9,7 @@ use Rattle.std.proofs.lemmas.Bool.Decides.{Decides-below_and, Decides-eqb}
 use Rattle.card.specs.Cards.{template_tags}
 use Rattle.card.specs.Sets.{has}
 use Rattle.card.specs.Lines.{line_of, Says}
-use Rattle.common.specs.Tags.{group_tag, GroupTag, Breaks, Sound, SetOf, FirstBreak, Names}
+use Rattle.common.specs.Tags.{group_tag, GroupTag, BreaksTags, SoundTags, SetOf, FirstBreak, Names}
 use Rattle.common.proofs.Sets.{only, absent, present, stays, added, either, same_members}
 
 -- no two data groups have one tag: the table read backward
@@ -46,9 +46,9 @@ module _ (tags : List ℕ) (i set group : ℕ) (low : group < 16) (here : group_
       let w = (known.1 group low).1 (present set group low n) in
       record { within = l; breaks = inr (w.0, w.1, w.2 ∙ here); before = known.0 }
 
-  sound_more : bit_and set (only group) ≡ 0 → Sound tags (i + 1)
+  sound_more : bit_and set (only group) ≡ 0 → SoundTags tags (i + 1)
   sound_more e =
-      below_more (λ j. Breaks tags j → ⊥) i known.0
+      below_more (λ j. BreaksTags tags j → ⊥) i known.0
       (⊎_elim (λ none. none (group, low, here))
       (λ w. absent set group low e ((known.1 group low).0 (w.0, w.1, w.2 ∙ sym here))))
 
@@ -75,7 +75,7 @@ one_set tags n d e a b s t = same_members d e a b (λ f l. (λ h. (t f l).0 ((s 
 
 -- the line of case 8, where a list names a set
 pub tag_lines_when : (tags : List ℕ) (set declared place : ℕ) → Names tags (length tags) set → set < 65536 → declared < 65536
-    → Sound tags (length tags) × Says (line_of (eqb set declared) place) (SetOf tags (length tags) declared) (λ at. at ≡ place)
+    → SoundTags tags (length tags) × Says (line_of (eqb set declared) place) (SetOf tags (length tags) declared) (λ at. at ≡ place)
 tag_lines_when tags set declared place n l m = ⊎_elim
     (λ e. rw (eq-eqb set declared e) (n.0, subst (SetOf tags (length tags)) e n.1))
     (λ d. rw (ne_eqb set declared d) (n.0, (λ s. d (one_set tags (length tags) set declared l m n.1 s), refl)))

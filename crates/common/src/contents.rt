@@ -1,7 +1,7 @@
 //! What EF.COM's template holds (case 4).
-ghost use Rattle.std.specs.Option.{MatchOption};
+ghost use Rattle.std.specs.Prelude.{MatchOption};
 ghost use Rattle.object.specs.Readers.{rest_of};
-ghost use Rattle.common.specs.Contents.{Holds, Contains};
+ghost use Rattle.common.specs.Contents.{HoldsCommon, FoundCommon};
 
 use object::{Reader, Value};
 
@@ -22,14 +22,15 @@ pub(crate) struct Contents<'a> {
     pub tags: Value<'a>,
 }
 
-/// The contents of the template's value, which the reader has before it; `None` exactly if it does not hold the three objects in their order and no more.
+/// The contents of the template's value, which the reader has before it; `None` exactly if it does not hold the three
+/// objects in their order and no more.
 pub(crate) fn read_contents(mut reader: Reader<'_>) -> Option<Contents<'_>>
-    ensures { MatchOption result (Holds (rest_of reader.entry) → ⊥) (λ contents. Contains reader.entry.position (rest_of reader.entry) contents) }
+    ensures { MatchOption result (HoldsCommon (rest_of reader.entry) → ⊥)
+        (FoundCommon reader.entry.position (rest_of reader.entry)) }
 {
-    let contents = Contents {
+    Some(Contents {
         version: reader.take(VERSION)?,
         unicode: reader.take(UNICODE)?,
-        tags: reader.take(TAGS)?,
-    };
-    reader.is_done().then_some(contents)
+        tags: reader.only(TAGS)?,
+    })
 }

@@ -1,11 +1,11 @@
 //! The lines of cases 4 to 8.
 ghost use Rattle.std.specs.Prelude.{◌≡◌, [], ◌∷◌};
 ghost use Rattle.object.specs.Readers.{rest_of};
-ghost use Rattle.common.specs.Lines.{AreCommonLines};
+ghost use Rattle.common.specs.Lines.{common_unjudged, AreCommonLines};
 
 use crate::contents::{Contents, read_contents};
 use crate::tags::{TagLines, tag_lines};
-use card::Line;
+use card::{Line, Profile};
 use object::Reader;
 
 /// The lines of cases 4 to 8 of EF.COM.
@@ -19,18 +19,23 @@ pub struct CommonLines {
 }
 
 impl CommonLines {
-    /// The lines where an earlier case failed.
-    pub const BLOCKED: CommonLines = CommonLines {
-        contents: Line::Blocked,
-        version: Line::Blocked,
-        unicode: Line::Blocked,
-        tags: Line::Blocked,
-        declared: Line::Blocked,
-    };
+    /// The lines where the own cases are not judged: each is this one.
+    pub fn unjudged(line: Line) -> CommonLines
+        ensures { result ≡ common_unjudged line }
+    {
+        CommonLines {
+            contents: line,
+            version: line,
+            unicode: line,
+            tags: line,
+            declared: line,
+        }
+    }
 
     /// The lines in the order of the cases.
     pub fn by_case(self) -> [Line; 5]
-        ensures { result ≡ self.contents ∷ self.version ∷ self.unicode ∷ self.tags ∷ self.declared ∷ [] }
+        ensures { result ≡
+            self.contents ∷ self.version ∷ self.unicode ∷ self.tags ∷ self.declared ∷ [] }
     {
         [
             self.contents,
@@ -43,8 +48,8 @@ impl CommonLines {
 }
 
 /// Cases 4 to 8, over the value of EF.COM's template, which the reader has before it.
-pub fn common_lines(reader: Reader<'_>, declared: u16) -> CommonLines
-    ensures { AreCommonLines declared reader.entry.position (rest_of reader.entry) result.contents result.version result.unicode result.tags result.declared }
+pub fn common_lines(reader: Reader<'_>, profile: Profile) -> CommonLines
+    ensures { AreCommonLines profile reader.entry.position (rest_of reader.entry) result }
 {
     let Some(
         Contents {
@@ -58,10 +63,10 @@ pub fn common_lines(reader: Reader<'_>, declared: u16) -> CommonLines
             contents: Line::Fail {
                 place: reader.position,
             },
-            ..CommonLines::BLOCKED
+            ..CommonLines::unjudged(Line::Blocked)
         };
     };
-    let TagLines { tags, declared } = tag_lines(tags, declared);
+    let TagLines { tags, declared } = tag_lines(tags, profile);
     CommonLines {
         contents: Line::Pass,
         version: Line::judged(version.bytes == b"0107".as_slice(), version.place),

@@ -5,30 +5,30 @@ use Rattle.std.proofs.lemmas.Bool.{false≢true}
 use Rattle.object.specs.Objects.{Begins, Unread}
 use Rattle.object.proofs.Laws.{same, begins_long}
 use Rattle.faces.specs.declared.features.Feature.{Feature}
-use Rattle.faces.specs.Rising.{Allows, Listed, Rising, stop, more, Has, here, later}
+use Rattle.faces.specs.Rising.{Allows, Listed, RisingFeatures, stop, more, Has, here, later}
 
 -- the first object of rising ones, and the others
-pub rising_first : {list : List Feature} {last t : ℕ} {xs v r : List ℕ} → Begins xs t v r → Rising list last xs → (last < t) × Listed list t (length v) × Rising list t r
+pub rising_first : {list : List Feature} {last t : ℕ} {xs v r : List ℕ} → Begins xs t v r → RisingFeatures list last xs → (last < t) × Listed list t (length v) × RisingFeatures list t r
 rising_first b stop = absurd (omega (arith, begins_long b))
 rising_first {list} {last} {t} {v = v} {r = r} b (more u w s c l a h) =
     let e = same c b in (
       subst (λ n. last < n) e.0 l,
       subst (λ n. Listed list n (length v)) e.0 (subst (λ z. Listed list u (length z)) e.1 a),
-      subst (λ n. Rising list n r) e.0 (subst (λ z. Rising list u z) e.2 h),
+      subst (λ n. RisingFeatures list n r) e.0 (subst (λ z. RisingFeatures list u z) e.2 h),
     )
 
 pub rising_on : {list : List Feature} {last t : ℕ} {xs v r : List ℕ} {P : Type 0} → Begins xs t v r → last < t → Listed list t (length v) →
-    (Rising list last xs ↔ P) → (Rising list t r ↔ P)
+    (RisingFeatures list last xs ↔ P) → (RisingFeatures list t r ↔ P)
 rising_on {t = t} {v = v} {r = r} b l a h = (λ k. h.0 (more t v r b l a k), λ p. (rising_first b (h.1 p)).2)
 
-rising_end : {list : List Feature} {last : ℕ} {xs : List ℕ} → Unread xs → 0 < length xs → Rising list last xs → ⊥
+rising_end : {list : List Feature} {last : ℕ} {xs : List ℕ} → Unread xs → 0 < length xs → RisingFeatures list last xs → ⊥
 rising_end n l stop = omega arith
 rising_end n l (more t v r b m a s) = n t v r b
 
 -- at the end the rest rises exactly if there is none
 pub rising_when : {list : List Feature} {last : ℕ} {xs ys : List ℕ} (P : Type 0) (b : Bool) → Unread xs → ys ≡ xs → MatchBool b (ys ≡ []) (0 < length ys) →
-    (Rising list last xs ↔ P) → (IsTrue b ↔ P)
-rising_when {list} {last} P true n e d h = (λ _. h.0 (subst (λ z. Rising list last z) (sym d ∙ e) stop), λ _. refl)
+    (RisingFeatures list last xs ↔ P) → (IsTrue b ↔ P)
+rising_when {list} {last} P true n e d h = (λ _. h.0 (subst (λ z. RisingFeatures list last z) (sym d ∙ e) stop), λ _. refl)
 rising_when P false n e d h = (λ w. absurd (false≢true w), λ p. absurd (rising_end n (subst (λ z. 0 < length z) e d) (h.1 p)))
 
 -- where the first object is not the one, the rest has it

@@ -2,7 +2,7 @@
 ghost use Rattle.std.specs.Prelude.{◌↔◌, true, IsTrue, MatchResult};
 ghost use Rattle.std.specs.Fn.{FnReturnsAt};
 ghost use Rattle.object.specs.Readers.{rest_of};
-ghost use Rattle.faces.specs.Rows.{All, Each, FirstFailing};
+ghost use Rattle.faces.specs.Rows.{AllTagged, Each, FirstFailing};
 ghost use Rattle.faces.specs.Faces.{Entry, Described};
 
 use crate::features::are_lawful;
@@ -17,7 +17,7 @@ const BLOCK: u16 = 0x5F2E;
 
 /// An entry that fails a test: where it starts, and where its value does.
 #[derive(Clone, Copy)]
-pub(crate) struct FailingEntry {
+pub struct FailingEntry {
     pub start: usize,
     pub value: usize,
 }
@@ -28,9 +28,10 @@ pub(crate) fn check_entries<F: Fn(&[u8]) -> bool>(
     passes: F,
 ) -> Result<(), FailingEntry>
     requires callable { F.IsAlwaysCallable passes }
-    requires tagged { All 0x7F60 (rest_of entries) }
-    ensures { MatchResult result (λ _. Each 0x7F60 (λ v. FnReturnsAt F.Fn passes v true) (rest_of entries.entry))
-        (λ entry. FirstFailing 0x7F60 (FnReturnsAt F.Fn passes) entries.entry.position (rest_of entries.entry) entry) }
+    requires tagged { AllTagged 0x7F60 (rest_of entries) }
+    ensures { let bytes = rest_of entries.entry in MatchResult result
+        (λ _. Each 0x7F60 (λ v. FnReturnsAt F.Fn passes v true) bytes)
+        (FirstFailing 0x7F60 (FnReturnsAt F.Fn passes) entries.entry.position bytes) }
 {
     let mut start = entries.position;
     while let Some(value) = entries.take(ENTRY) {
@@ -52,9 +53,8 @@ pub(crate) fn is_entry(value: &[u8]) -> bool
     let mut reader = Reader::new(value);
     reader.take(HEADER).is_some()
         && reader
-            .take(BLOCK)
+            .only(BLOCK)
             .is_some_and(|block| !block.bytes.is_empty())
-        && reader.is_done()
 }
 
 /// Case 23: whether an entry's value begins with a header whose features are lawful.

@@ -2,7 +2,7 @@
 //! the owner and the format of the face block among them.
 ghost use Rattle.std.specs.Prelude.{◌↔◌, IsTrue};
 ghost use Rattle.object.specs.Readers.{rest_of};
-ghost use Rattle.faces.specs.Rising.{feature_list, Allows, Listed, Rising, Has, LawfulFeatures};
+ghost use Rattle.faces.specs.Rising.{feature_list, Allows, Listed, RisingFeatures, Has, LawfulFeatures};
 
 use object::Reader;
 
@@ -89,7 +89,7 @@ pub(crate) fn are_lawful(bytes: &[u8]) -> bool
 
 /// Whether the reader has features before it, in rising order of tags and none twice.
 fn are_rising(mut reader: Reader<'_>) -> bool
-    ensures { IsTrue result ↔ Rising feature_list 0 (rest_of reader.entry) }
+    ensures { IsTrue result ↔ RisingFeatures feature_list 0 (rest_of reader.entry) }
 {
     let mut last = 0;
     while let Some(object) = reader.next() {

@@ -2,7 +2,7 @@
 ghost use Rattle.std.specs.Prelude.{◌↔◌, ℕ, IsTrue, MatchOption};
 ghost use Rattle.object.specs.Readers.{rest_of};
 ghost use Rattle.faces.specs.Rows.{Row};
-ghost use Rattle.faces.specs.Groups.{Counts, Grouped, Found};
+ghost use Rattle.faces.specs.Groups.{IsCount, Grouped, Found};
 
 use object::Reader;
 
@@ -22,24 +22,18 @@ const LEAST_FACES: u8 = 1;
 const MOST_FACES: u8 = 9;
 
 /// A reader at the entries, if case 21 holds of what the reader has before it; `None` exactly if it does not.
-pub(crate) fn find_entries(mut reader: Reader<'_>) -> Option<Reader<'_>>
-    ensures { MatchOption result (Grouped (rest_of reader.entry) → ⊥) (λ entries. Found reader.entry entries) }
+pub(crate) fn find_entries(reader: Reader<'_>) -> Option<Reader<'_>>
+    ensures { MatchOption result (Grouped (rest_of reader.entry) → ⊥) (Found reader.entry) }
 {
-    let group = reader.take(GROUP)?;
-    if !reader.is_done() {
-        return None;
-    }
-    let mut inside = Reader {
-        bytes: reader.bytes,
-        position: group.place,
-    };
+    let group = reader.only(GROUP)?;
+    let mut inside = Reader::starting(reader.bytes, group.place);
     let count = read_count(inside.take(COUNT)?.bytes)?;
     is_row(inside, ENTRY, count).then_some(inside)
 }
 
 /// The count, if the value is one byte from 1 to 9; `None` exactly if it is not.
 fn read_count(value: &[u8]) -> Option<u8>
-    ensures { MatchOption result ((k : ℕ) → Counts value.now k → ⊥) (λ k. Counts value.now k) }
+    ensures { MatchOption result ((k : ℕ) → IsCount value.now k → ⊥) (IsCount value.now) }
 {
     match value {
         [count @ LEAST_FACES..=MOST_FACES] => Some(*count),

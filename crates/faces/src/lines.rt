@@ -1,7 +1,7 @@
 //! The lines of cases 21 to 23, of which each waits for the one before.
 ghost use Rattle.std.specs.Prelude.{◌≡◌, [], ◌∷◌};
 ghost use Rattle.object.specs.Readers.{rest_of};
-ghost use Rattle.faces.specs.Faces.{AreFaceLines};
+ghost use Rattle.faces.specs.Faces.{faces_unjudged, AreFaceLines};
 
 use crate::entries::{check_entries, is_described, is_entry};
 use crate::group::find_entries;
@@ -17,12 +17,16 @@ pub struct FaceLines {
 }
 
 impl FaceLines {
-    /// The lines where an earlier case failed.
-    pub const BLOCKED: FaceLines = FaceLines {
-        group: Line::Blocked,
-        entries: Line::Blocked,
-        features: Line::Blocked,
-    };
+    /// The lines where the own cases are not judged: each is this one.
+    pub fn unjudged(line: Line) -> FaceLines
+        ensures { result ≡ faces_unjudged line }
+    {
+        FaceLines {
+            group: line,
+            entries: line,
+            features: line,
+        }
+    }
 
     /// The lines in the order of the cases.
     pub fn by_case(self) -> [Line; 3]
@@ -34,21 +38,21 @@ impl FaceLines {
 
 /// Cases 21 to 23, over the value of DG2's template, which the reader has before it.
 pub fn face_lines(reader: Reader<'_>) -> FaceLines
-    ensures { AreFaceLines reader.entry.position (rest_of reader.entry) result.group result.entries result.features }
+    ensures { AreFaceLines reader.entry.position (rest_of reader.entry) result }
 {
     let Some(entries) = find_entries(reader) else {
         return FaceLines {
             group: Line::Fail {
                 place: reader.position,
             },
-            ..FaceLines::BLOCKED
+            ..FaceLines::unjudged(Line::Blocked)
         };
     };
     if let Err(entry) = check_entries(entries, is_entry) {
         return FaceLines {
             group: Line::Pass,
             entries: Line::Fail { place: entry.start },
-            ..FaceLines::BLOCKED
+            ..FaceLines::unjudged(Line::Blocked)
         };
     }
     let features = match check_entries(entries, is_described) {

@@ -10,25 +10,26 @@ use Rattle.std.specs.Iterator.{Yields, FindsItem}
 use Rattle.std.specs.List.{FoldsTo}
 use Rattle.std.specs.Option.{option_map, option_or}
 use Rattle.std.specs.Result.{result_unwrap_or}
-use Rattle.image.specs.Images.{Field, field, written, Lawful, Rising, IsImage, Breaks, here, later, file_of, files_in}
-use Rattle.image.specs.Checks.{Starts, ImageOf, BrokenAt, Checks, files_at, StandsFor}
+use Rattle.card.specs.Cards.{files_at}
+use Rattle.image.specs.Images.{ImageField, field, row_of, LawfulField, RisingFields, IsImage, Breaks, here, later, file_of, files_in}
+use Rattle.image.specs.Checks.{Starts, ImageOf, BrokenAt, Checks, StandsFor}
 use Rattle.image.specs.declared.image.StoredField.{StoredField}
 use Rattle.image.specs.declared.image.Fields.{Fields}
 use Rattle.image.specs.declared.image.Image.{Image}
 use Rattle.image.specs.declared.image.ImageRefusal.{ImageRefusal}
 use Rattle.image.specs.declared.image.ImageRefusal.TheVariants.{Malformed}
-use Rattle.image.proofs.Rows.{same_field, files_next, files_of_written, one_row, one_row_of_files, no_break, one_break, too_few}
+use Rattle.image.proofs.Rows.{same_field, files_next, files_of_row, one_row, one_row_of_files, no_break, one_break, too_few}
 
 -- a row of which lawful fields have been passed, and what is left of it
 pub record Passed (bytes rest : List ℕ) (lowest : ℕ) : Type 0 where
   pub within : length rest ≤ length bytes
   pub breaks : (q : ℕ) → Breaks lowest (length bytes - length rest) rest q → Breaks 0 0 bytes q
-  pub fields : (fs : List Field) → Rising lowest fs → written fs ≡ rest → (gs : List Field) × IsImage bytes gs
+  pub fields : (fs : List ImageField) → RisingFields lowest fs → row_of fs ≡ rest → (gs : List ImageField) × IsImage bytes gs
 
 pub long : (k : ℕ) (bs next rest : List ℕ) → field k bs next ≡ rest → length rest ≡ length next + 3 + length bs
 long k bs next rest e = sym (ap length e) ∙ omega (arith, length-append bs next)
 
-pub pass : (bytes rest next : List ℕ) (lowest k : ℕ) (bs : List ℕ) → Passed bytes rest lowest → Lawful lowest k bs → field k bs next ≡ rest → Passed bytes next (k + 1)
+pub pass : (bytes rest next : List ℕ) (lowest k : ℕ) (bs : List ℕ) → Passed bytes rest lowest → LawfulField lowest k bs → field k bs next ≡ rest → Passed bytes next (k + 1)
 pass bytes rest next lowest k bs p w e =
     let n = long k bs next rest e in
     let m = p.within in
@@ -54,15 +55,15 @@ out_of_order bytes rest next lowest k bs p e n =
 pub unread : (bytes rest next : List ℕ) (lowest : ℕ) → Passed bytes rest lowest → Starts rest None next → 0 < length rest → BrokenAt bytes (length bytes - length rest)
 unread bytes rest next lowest p s h = broken bytes (length bytes - length rest) (p.breaks _ (here h (λ k bs more w e. s.1 k bs more w.short e)))
 
-pub image_of : (bytes : List ℕ) (fs : List Field) → IsImage bytes fs → ImageOf bytes (files_in bytes)
+pub image_of : (bytes : List ℕ) (fs : List ImageField) → IsImage bytes fs → ImageOf bytes (files_in bytes)
 image_of bytes fs i =
-    let has : (k : ℕ) → files_in bytes k ≡ file_of fs k = λ k. ap (λ xs. files_in xs k) (sym i.writes) ∙ files_of_written 0 fs i.lawful k in
+    let has : (k : ℕ) → files_in bytes k ≡ file_of fs k = λ k. ap (λ xs. files_in xs k) (sym i.writes) ∙ files_of_row 0 fs i.lawful k in
     record {
       fields = fs;
       is_image = i;
       no_others = λ gs j. one_row gs fs (j.writes ∙ sym i.writes);
       has_files = has;
-      same_bytes = λ other gs j same. sym j.writes ∙ ap written (one_row_of_files 0 gs fs j.lawful i.lawful (λ k. same k ∙ has k)) ∙ i.writes;
+      same_bytes = λ other gs j same. sym j.writes ∙ ap row_of (one_row_of_files 0 gs fs j.lawful i.lawful (λ k. same k ∙ has k)) ∙ i.writes;
     }
 
 -- the row's end
@@ -111,7 +112,7 @@ pub record Gathered (row rest : List ℕ) (lowest : ℕ) (table : List (Option (
   pub free : (j : ℕ) → lowest ≤ j → get_or table j None ≡ None
 
 -- one field more
-pub gather : (row rest next : List ℕ) (lowest k : ℕ) (table : List (Option (Bor (List ℕ)))) (content : Bor (List ℕ)) → Gathered row rest lowest table → Lawful lowest k content.now
+pub gather : (row rest next : List ℕ) (lowest k : ℕ) (table : List (Option (Bor (List ℕ)))) (content : Bor (List ℕ)) → Gathered row rest lowest table → LawfulField lowest k content.now
     → field k content.now next ≡ rest → Gathered row next (k + 1) (set table k (Some content))
 gather row rest next lowest k table content g w e = record {
   long = length-set table k (Some content) ∙ g.long;

@@ -1,7 +1,7 @@
 //! The chip: an image behind a link that takes a number of commands and gives a few bytes at a time.
-ghost use Rattle.std.specs.Prelude.{◌≡◌, min, max, ◌==◌};
-ghost use Rattle.image.specs.Images.{files_in, files_short};
-ghost use Rattle.image.specs.Counts.{Fully, LostWhenSpent, Tells, UsesCommand};
+ghost use Rattle.std.specs.Prelude.{◌≡◌};
+ghost use Rattle.image.specs.Checks.{image_files};
+ghost use Rattle.image.specs.Counts.{chip_files, chip_short, span_of, commands_of, is_spent, ChipReads};
 
 use crate::image::Image;
 use source::{Fault, Loss, Source, well_formed};
@@ -20,9 +20,9 @@ pub struct Chip<'a> {
 impl<'a> Chip<'a> {
     /// A chip with the files of an image, a span of which 0 counts as 1, and a number of commands.
     pub fn new(image: Image<'a>, span: u8, commands: u32) -> Chip<'a>
-        ensures image { result.image.row.now ≡ image.entry.row.now }
-        ensures span { result.span ≡ span }
-        ensures commands { result.commands ≡ commands }
+        ensures files { chip_files result ≡ image_files image.entry }
+        ensures span { span_of result ≡ span }
+        ensures commands { commands_of result ≡ commands }
     {
         Chip {
             image,
@@ -33,18 +33,13 @@ impl<'a> Chip<'a> {
 }
 
 impl<'a> Source for Chip<'a> {
-    ghost files = { λ s. files_in s.image.row.now };
+    ghost files = { chip_files };
 
-    ghost lost = { λ s. (s.commands == 0) };
+    ghost lost = { is_spent };
 
-    ghost bounded = { λ s f. files_short s.image.row.now f };
+    ghost bounded = { chip_short };
 
-    ghost steps = { λ s file place wanted t. UsesCommand s t };
-
-    ghost outcomes = { λ s file place wanted r t.
-        let content = files_in s.image.row.now file in
-        let most = min (max s.span 1) wanted in
-        UsesCommand s t × Tells content place most (s.commands == 0) r × Fully content place most r × LostWhenSpent s.commands r };
+    ghost outcomes = { ChipReads };
 
     fn read(
         &mut self,

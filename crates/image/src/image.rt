@@ -1,17 +1,18 @@
 //! The image: a card's files in memory, as a row of fields: a file's number, its length in two bytes, and the file.
 //! The link to them is never lost.
-ghost use Rattle.std.specs.Prelude.{◌≡◌, ◌<◌, ◌≤◌, false, length, MatchResult};
+ghost use Rattle.std.specs.Prelude.{◌≡◌, ◌<◌, ◌≤◌, ◌++◌, false, length, take, drop, MatchResult};
 ghost use Rattle.std.specs.Option.{option_map};
 ghost use Rattle.std.specs.Iterator.{at_most};
-ghost use Rattle.image.specs.Images.{files_in, files_short};
-ghost use Rattle.image.specs.Checks.{Starts, ImageOf, files_at, Refuses, Checks, StandsFor};
-ghost use Rattle.image.specs.Counts.{Copies, Fully, AnswersFully, answer_of, Tells};
+ghost use Rattle.card.specs.Cards.{files_at};
+ghost use Rattle.source.specs.Reads.{request, Answers};
+ghost use Rattle.image.specs.Checks.{Starts, ImageOf, Refuses, Checks, StandsFor, image_files, image_short};
+ghost use Rattle.image.specs.Counts.{full_count, answer_of, ImageReads};
 ghost use Rattle.image.specs.Numbers.{of_image};
 
-use card::{EF_SOD, FILES, LONGEST, Numbered};
+use card::number::MALFORMED_IMAGE;
+use card::{CardFiles, EF_SOD, FILES, LONGEST, Numbered};
 use source::{Fault, Source, well_formed};
-use std::error::Error;
-use std::fmt;
+use thiserror::Error;
 
 /// How many bytes stand before a field's file: its number and its length.
 const HEADER: usize = 3;
@@ -54,9 +55,10 @@ impl<'a> Iterator for Fields<'a> {
 }
 
 /// Why bytes are no image.
-#[derive(Clone, Copy, Debug, PartialEq, Eq)]
+#[derive(Clone, Copy, Debug, PartialEq, Eq, Error)]
 pub enum ImageRefusal {
     /// The first field that breaks starts here.
+    #[error("refusal {n}: the field at {position} breaks", n = MALFORMED_IMAGE)]
     Malformed { position: usize },
 }
 
@@ -65,23 +67,10 @@ impl Numbered for ImageRefusal {
 
     fn number(self) -> u8 {
         match self {
-            ImageRefusal::Malformed { .. } => 8,
+            ImageRefusal::Malformed { .. } => MALFORMED_IMAGE,
         }
     }
 }
-
-impl fmt::Display for ImageRefusal {
-    fn fmt<W: fmt::Write>(&self, f: &mut fmt::Formatter<W>) -> fmt::Result {
-        let ImageRefusal::Malformed { position } = *self;
-        write!(
-            f,
-            "refusal {}, the field at {position} breaks",
-            self.number()
-        )
-    }
-}
-
-impl Error for ImageRefusal {}
 
 /// A card's files in memory.
 #[derive(Clone, Copy)]
@@ -100,25 +89,10 @@ impl<'a> TryFrom<&'a [u8]> for Image<'a> {
     }
 }
 
-/// The files of a card by their numbers.
-#[derive(Clone, Copy)]
-pub struct Files<'a> {
-    by_number: [Option<&'a [u8]>; FILES],
-    ghost all: { length by_number ≡ 18 },
-}
-
-impl<'a> Files<'a> {
-    /// A file, if it is there.
-    pub fn get(&self, file: u8) -> Option<&'a [u8]>
-        ensures { option_map (λ x. x.now) result ≡ files_at self.now.by_number file }
-    {
-        *self.by_number.get(usize::from(file))?
-    }
-}
-
 /// The files of the image that the bytes are, or where the first field that breaks starts; in one pass over the fields.
-pub fn files_of(bytes: &[u8]) -> Result<Files<'_>, ImageRefusal>
-    ensures { MatchResult result (λ files. ImageOf bytes.now (files_at files.by_number)) (λ refusal. Refuses bytes.now refusal) }
+pub fn files_of(bytes: &[u8]) -> Result<CardFiles<'_>, ImageRefusal>
+    ensures { MatchResult result (λ files. ImageOf bytes.now (files_at files.by_number))
+        (λ refusal. Refuses bytes.now refusal) }
 {
     let mut by_number = [None; FILES];
     let mut position = 0;
@@ -134,7 +108,7 @@ pub fn files_of(bytes: &[u8]) -> Result<Files<'_>, ImageRefusal>
     if position < bytes.len() {
         return Err(ImageRefusal::Malformed { position });
     }
-    Ok(Files { by_number })
+    Ok(CardFiles { by_number })
 }
 
 impl<'a> Image<'a> {
@@ -147,14 +121,14 @@ impl<'a> Image<'a> {
 
     /// The image over any bytes; it has no files where they are no image.
     pub fn over(bytes: &'a [u8]) -> Image<'a>
-        ensures { StandsFor bytes.now (files_in result.row.now) }
+        ensures { StandsFor bytes.now (image_files result) }
     {
         Image::check(bytes).unwrap_or(Image { row: &[] })
     }
 
     /// A file, if it is there.
     pub fn file(&self, file: u8) -> Option<&'a [u8]>
-        ensures { option_map (λ x. x.now) result ≡ files_in self.now.row.now file }
+        ensures { option_map (λ x. x.now) result ≡ image_files self.now file }
     {
         Fields { row: self.row }
             .find(|field| field.number == file)
@@ -171,8 +145,9 @@ impl<'a> Image<'a> {
     ) -> Option<usize>
         requires some { 0 < most }
         requires room { most ≤ length buffer.old }
-        ensures answers { AnswersFully (files_in self.now.row.now file) place most buffer.old buffer.new result }
-        ensures told { result ≡ answer_of (files_in self.now.row.now file) place most }
+        ensures answers { Answers (image_files self.now file) (request file place most) result
+            buffer.old buffer.new }
+        ensures told { result ≡ answer_of (image_files self.now file) place most }
     {
         let bytes = self.file(file)?;
         Some(copy_part(bytes, usize::from(place), most, buffer))
@@ -183,7 +158,8 @@ impl<'a> Image<'a> {
 fn copy_part(bytes: &[u8], place: usize, most: usize, buffer: &mut [u8]) -> usize
     requires some { 0 < most }
     requires room { most ≤ length buffer.old }
-    ensures { Copies bytes.now place most result buffer.old buffer.new }
+    ensures count { result ≡ full_count bytes.now place most }
+    ensures copied { buffer.new ≡ take result (drop place bytes.now) ++ drop result buffer.old }
 {
     let Some(rest) = bytes.get(place..) else {
         return 0;
@@ -194,15 +170,13 @@ fn copy_part(bytes: &[u8], place: usize, most: usize, buffer: &mut [u8]) -> usiz
 }
 
 impl<'a> Source for Image<'a> {
-    ghost files = { λ s. files_in s.row.now };
+    ghost files = { image_files };
 
     ghost lost = { λ _. false };
 
-    ghost bounded = { λ s f. files_short s.row.now f };
+    ghost bounded = { image_short };
 
-    ghost steps = { λ s file place wanted t. t ≡ s };
-
-    ghost outcomes = { λ s file place wanted r t. (t ≡ s) × Tells (files_in s.row.now file) place wanted false r × Fully (files_in s.row.now file) place wanted r };
+    ghost outcomes = { ImageReads };
 
     fn read(
         &mut self,

@@ -5,4 +5,4 @@ pub mod chip;
 pub mod image;
 
 pub use chip::Chip;
-pub use image::{Files, Image, ImageRefusal, files_of};
+pub use image::{Image, ImageRefusal, files_of};

@@ -2,16 +2,12 @@
 #![tactic(auto)]
 
 use card::{DG1, DG2, EF_SOD, LONGEST, Profile};
-use cases::worked_rows;
+use cases::{worked_rows, write_verdict};
 use changed::Changed;
 use image::{Chip, Image};
 use samples::{OLD_FACE_CARD, TD1_CARD, TD2_CARD, TD3_CARD};
-use sheet::Sheet;
+use sheet::{Sheet, SheetLine};
 use source::{Source, read_whole};
-use verdict::write_verdict;
-
-/// The highest case.
-const LAST_CASE: u8 = 24;
 
 fn main(rt: HostRuntime) -> anyhow::Result<()> {
     run(&rt)
@@ -82,8 +78,12 @@ fn print_lines(
     let mut sheet = Sheet::new();
     write_verdict(&mut sheet, file, content, profile);
     print!(rt; "  file {file}:")?;
-    for case in 1..=LAST_CASE {
-        if let Some(line) = sheet.line(case, file) {
+    for SheetLine {
+        case,
+        file: of,
+        line,
+    } in sheet.walk() {
+        if of == file {
             print!(rt; " {case} {line};")?;
         }
     }

@@ -2,7 +2,7 @@
 use Rattle.std.proofs.Common.{◌≡◌, ℕ, ◌+◌, ◌-◌, ◌<◌, ◌≤◌, true, false, ◌⊎◌, List, [], ◌∷◌, ◌++◌, length, sym, refl, ap, inl, inr, append_assoc, arith}
 use borrow.Author.Tests.{both_ways}
 use Rattle.object.specs.Objects.{Begins, Unread, header_size, nests}
-use Rattle.object.specs.Trees.{Tree, Trees, plain, nested, none, more, write, writes, Lawful, AllLawful, Tiled, Broken, here, inside, later, First, NowhereTiled}
+use Rattle.object.specs.Trees.{Tree, Trees, plain, nested, none, more, write, writes, LawfulTree, LawfulTrees, Tiled, Broken, here, inside, later, First, NowhereTiled}
 use Rattle.object.proofs.Laws.{begins_long, same}
 
 pub empty : (xs : List ℕ) → length xs ≡ 0 → [] ≡ xs
@@ -18,20 +18,20 @@ abbrev pub value : Tree → List ℕ
 value (plain t v) = v
 value (nested t ts) = writes ts
 
-pub begins : (n : ℕ) (t : Tree) (r : List ℕ) → Lawful t n → Begins (write t ++ r) (tag t) (value t) r
+pub begins : (n : ℕ) (t : Tree) (r : List ℕ) → LawfulTree t n → Begins (write t ++ r) (tag t) (value t) r
 begins n (plain t v) r w = record { lawful = w.1; small = w.3; written = simp append_assoc }
 begins n (nested t ts) r w = record { lawful = w.1; small = w.3; written = simp append_assoc }
 
-deep : (n : ℕ) (t : Tree) → Lawful t n → 0 < n
+deep : (n : ℕ) (t : Tree) → LawfulTree t n → 0 < n
 deep n (plain t v) w = w.0
 deep n (nested t ts) w = w.0
 
-within : (n : ℕ) (t : Tree) → Lawful t n → nests (tag t) ≡ true → Tiled (n - 1) (value t)
+within : (n : ℕ) (t : Tree) → LawfulTree t n → nests (tag t) ≡ true → Tiled (n - 1) (value t)
 within n (plain t v) w q = elim (both_ways (nests t) w.2 q) [ ]
 within n (nested t ts) w q = (ts, w.4, refl)
 
 -- the trees of a range that begins with an object are that object's and the rest's
-pub apart : (n : ℕ) (ts : Trees) {xs : List ℕ} {t : ℕ} {v r : List ℕ} → AllLawful ts n → writes ts ≡ xs → Begins xs t v r →
+pub apart : (n : ℕ) (ts : Trees) {xs : List ℕ} {t : ℕ} {v r : List ℕ} → LawfulTrees ts n → writes ts ≡ xs → Begins xs t v r →
     Tiled n r × (nests t ≡ true → Tiled (n - 1) v)
 apart n none w e b = let z : ⊥ = omega (arith, begins_long b, ap length e) in elim z [ ]
 apart n (more u us) w e b =
@@ -42,7 +42,7 @@ apart n (more u us) w e b =
 pub sound : {n p q : ℕ} {xs : List ℕ} → Broken n p xs q → Tiled n xs → ⊥
 sound (here {levels = n} {bytes = xs} l z) t = go t.0 t.1 t.2 z
   where
-    go : (ts : Trees) → AllLawful ts n → writes ts ≡ xs → (n ≡ 0) ⊎ Unread xs → ⊥
+    go : (ts : Trees) → LawfulTrees ts n → writes ts ≡ xs → (n ≡ 0) ⊎ Unread xs → ⊥
     go none w e z = omega (arith, ap length e)
     go (more u us) w e (inl z) = omega (arith, deep n u w.0)
     go (more u us) w e (inr z) = z _ _ _ (rw e at (begins n u (writes us) w.0))

@@ -2,12 +2,12 @@
 use Rattle.std.proofs.Common.{◌≡◌, ℕ, ◌-◌, List, length, sym, refl, ap, ◌∙◌, arith}
 use borrow.Author.Tests.{both_ways}
 use Rattle.object.specs.Objects.{nests}
-use Rattle.object.specs.Trees.{Tree, Trees, plain, nested, none, more, writes, Lawful, AllLawful, Tiled, TiledOnce}
+use Rattle.object.specs.Trees.{Tree, Trees, plain, nested, none, more, writes, LawfulTree, LawfulTrees, Tiled, TiledOnce}
 use Rattle.object.proofs.Laws.{begins_long, same}
 use Rattle.object.proofs.Trees.{tag, value, begins}
 
 mutual
-  pub unique : (ts us : Trees) (n : ℕ) → AllLawful ts n → AllLawful us n → writes ts ≡ writes us → ts ≡ us
+  pub unique : (ts us : Trees) (n : ℕ) → LawfulTrees ts n → LawfulTrees us n → writes ts ≡ writes us → ts ≡ us
   unique none none n v w e = refl
   unique none (more u us) n v w e = let z : ⊥ = omega (arith, begins_long (begins n u (writes us) w.0), ap length e) in elim z [ ]
   unique (more t ts) none n v w e = let z : ⊥ = omega (arith, begins_long (begins n t (writes ts) v.0), ap length e) in elim z [ ]
@@ -17,7 +17,7 @@ mutual
       let b : ts ≡ us = unique ts us n v.1 w.1 i.2 in
       cc
 
-  alike : (t u : Tree) (n : ℕ) → Lawful t n → Lawful u n → tag t ≡ tag u → value t ≡ value u → t ≡ u
+  alike : (t u : Tree) (n : ℕ) → LawfulTree t n → LawfulTree u n → tag t ≡ tag u → value t ≡ value u → t ≡ u
   alike (plain t a) (plain u b) n v w e f = cc
   alike (plain t a) (nested u us) n v w e f = elim (both_ways (nests t) v.2 (ap nests e ∙ w.2)) [ ]
   alike (nested t ts) (plain u b) n v w e f = elim (both_ways (nests u) w.2 (ap nests (sym e) ∙ v.2)) [ ]

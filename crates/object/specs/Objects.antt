@@ -1,5 +1,5 @@
 -- Objects as they are written: a tag, a length in its shortest form, and a value.
-use Rattle.std.specs.Prelude.{◌≡◌, ℕ, ◌+◌, ◌/◌, ◌%◌, ◌<◌, Bool, cond, ◌⊎◌, List, [], ◌∷◌, ◌++◌, length, ◌==◌, nat_lt}
+use Rattle.std.specs.Prelude.{◌≡◌, ℕ, ◌+◌, ◌/◌, ◌%◌, ◌<◌, Bool, if◌then◌else◌, ◌⊎◌, List, [], ◌∷◌, ◌++◌, length, ◌==◌, nat_lt}
 
 -- a tag of one byte: not 00, and its low five bits are not all ones
 pub record ShortTag (tag : ℕ) : Type 0 where
@@ -18,15 +18,17 @@ LawfulTag tag = ShortTag tag ⊎ LongTag tag
 
 -- the bytes of a tag
 abbrev pub tag_bytes : ℕ → List ℕ
-tag_bytes tag = cond (nat_lt tag 256) (tag ∷ []) (tag / 256 ∷ tag % 256 ∷ [])
+tag_bytes tag = if nat_lt tag 256 then tag ∷ [] else tag / 256 ∷ tag % 256 ∷ []
 
 -- the bytes of a length in its shortest form: 00 to 7F alone, 81 before 80 to FF, 82 before 0100 to FFFF
 abbrev pub length_bytes : ℕ → List ℕ
-length_bytes n = cond (nat_lt n 0x80) (n ∷ []) (cond (nat_lt n 256) (0x81 ∷ n ∷ []) (0x82 ∷ n / 256 ∷ n % 256 ∷ []))
+length_bytes n =
+    if nat_lt n 0x80 then n ∷ []
+    else (if nat_lt n 256 then 0x81 ∷ n ∷ [] else 0x82 ∷ n / 256 ∷ n % 256 ∷ [])
 
 -- an object is nested if the first byte of its tag has the bit 20 (hexadecimal), and plain otherwise
 unfoldable pub nests : ℕ → Bool
-nests tag = cond (nat_lt tag 256) tag (tag / 256) / 32 % 2 == 1
+nests tag = (if nat_lt tag 256 then tag else tag / 256) / 32 % 2 == 1
 
 -- the bytes begin with an object of this tag and value, and go on with the rest
 pub record Begins (bytes : List ℕ) (tag : ℕ) (value rest : List ℕ) : Type 0 where
@@ -45,3 +47,7 @@ Unread bytes = (tag : ℕ) (value rest : List ℕ) → Begins bytes tag value re
 -- the bytes begin with no object of this tag
 abbrev pub Lacks : List ℕ → ℕ → Type 0
 Lacks bytes tag = (value rest : List ℕ) → Begins bytes tag value rest → ⊥
+
+-- the bytes are not exactly one object of this tag
+abbrev pub IsNotOnly : List ℕ → ℕ → Type 0
+IsNotOnly bytes tag = (value : List ℕ) → Begins bytes tag value [] → ⊥

@@ -1,5 +1,5 @@
 -- What a reader has read, in the words of objects.
-use Rattle.std.specs.Prelude.{◌≡◌, ℕ, ◌+◌, ◌<◌, ◌≤◌, Bool, true, false, List, length, take, drop, Some, None, Option}
+use Rattle.std.specs.Prelude.{◌≡◌, ℕ, ◌+◌, ◌<◌, ◌≤◌, Bool, true, false, List, [], length, take, drop, Some, None, Option}
 use Rattle.object.specs.Objects.{Begins, Unread, Lacks, header_size, nests}
 use Rattle.object.specs.Trees.{Tiled, Broken}
 use Rattle.object.specs.Reading.{Head}
@@ -7,6 +7,7 @@ use Rattle.object.specs.declared.header.Header.{Header}
 use Rattle.object.specs.declared.object.Object.{Object}
 use Rattle.object.specs.declared.object.Object.TheVariants.{Plain, Nested}
 use Rattle.object.specs.declared.reader.Reader.{Reader}
+use Rattle.object.specs.declared.reader.Value.{Value}
 
 -- a header of the code, as the definitions have it
 abbrev pub head : Option Header → Option Head
@@ -49,11 +50,12 @@ pub record Stuck (a b : Reader) : Type 0 where
   pub bytes : b.bytes.now ≡ a.bytes.now
   pub position : b.position ≡ a.position
 
--- a reader before and after an object of this tag and value
-pub record Took (a b : Reader) (t : ℕ) (v : List ℕ) : Type 0 where
-  pub begins : Begins (rest_of a) t v (rest_of b)
-  pub position : b.position ≡ a.position + header_size t v + length v
+-- a reader before and after an object of this tag, and the object's value
+pub record Took (a b : Reader) (t : ℕ) (v : Value) : Type 0 where
+  pub begins : Begins (rest_of a) t v.bytes.now (rest_of b)
   pub bytes : b.bytes.now ≡ a.bytes.now
+  pub at : v.place ≡ a.position + header_size t v.bytes.now
+  pub position : b.position ≡ v.place + length v.bytes.now
 
 -- a reader at no object of this tag, which stays where it is
 pub record Missed (a b : Reader) (t : ℕ) : Type 0 where
@@ -61,12 +63,20 @@ pub record Missed (a b : Reader) (t : ℕ) : Type 0 where
   pub bytes : b.bytes.now ≡ a.bytes.now
   pub position : b.position ≡ a.position
 
+-- a reader before exactly one object of this tag, which ends with the reader's bytes, and the object's value
+pub record IsOnly (a : Reader) (t : ℕ) (v : Value) : Type 0 where
+  pub begins : Begins (rest_of a) t v.bytes.now []
+  pub at : v.place ≡ a.position + header_size t v.bytes.now
+  pub ends : v.place + length v.bytes.now ≡ length a.bytes.now
+
 -- a reader before and after objects that are sound at every level: what tiles the rest tiles the whole, and what is
 -- broken is broken in the rest
 pub record Goes (levels : ℕ) (a b : Reader) : Type 0 where
   pub tiled : Tiled levels (rest_of b) → Tiled levels (rest_of a)
-  pub down : (k : ℕ) → Broken levels a.position (rest_of a) k → Broken levels b.position (rest_of b) k
-  pub up : (k : ℕ) → Broken levels b.position (rest_of b) k → Broken levels a.position (rest_of a) k
+  pub down : (k : ℕ) → Broken levels a.position (rest_of a) k
+      → Broken levels b.position (rest_of b) k
+  pub up : (k : ℕ) → Broken levels b.position (rest_of b) k
+      → Broken levels a.position (rest_of a) k
   pub shorter : length (rest_of b) ≤ length (rest_of a)
 
 pub record Step (levels : ℕ) (a b : Reader) : Type 0 where

@@ -37,7 +37,8 @@ pub fn read_length(bytes: &[u8]) -> Option<(usize, usize)>
 fn read_tag(bytes: &[u8]) -> Option<(u16, usize)>
     ensures value { result ≡ tag_of bytes.now }
     ensures within { IfSome result (λ p. (0 < p.1) × (p.1 ≤ length bytes.now) × (p.1 ≤ 2)) }
-    ensures written { IfSome result (λ p. LawfulTag p.0 × (bytes.now ≡ tag_bytes p.0 ++ drop p.1 bytes.now)) }
+    ensures written { IfSome result (λ p. LawfulTag p.0
+        × (bytes.now ≡ tag_bytes p.0 ++ drop p.1 bytes.now)) }
 {
     let [first, behind @ ..] = bytes else {
         return None;
@@ -65,9 +66,11 @@ fn is_nested(first: u8) -> bool
 #[inline(always)]
 pub(crate) fn read_header(bytes: &[u8]) -> Option<Header>
     ensures value { head result ≡ header_of bytes.now }
-    ensures within { IfSome result (λ h. (h.size ≤ length bytes.now) × (h.length < 65536) × (h.size ≤ 5)) }
+    ensures within { IfSome result (λ h. (h.size ≤ length bytes.now) × (h.length < 65536)
+        × (h.size ≤ 5)) }
     ensures nesting { IfSome result (λ h. h.is_nested ≡ nests h.tag) }
-    ensures written { IfSome result (λ h. LawfulTag h.tag × (bytes.now ≡ tag_bytes h.tag ++ (length_bytes h.length ++ drop h.size bytes.now))) }
+    ensures written { IfSome result (λ h. LawfulTag h.tag × (bytes.now ≡
+        tag_bytes h.tag ++ (length_bytes h.length ++ drop h.size bytes.now))) }
 {
     let (tag, tag_size) = read_tag(bytes)?;
     let (length, length_size) = read_length(&bytes[tag_size..])?;

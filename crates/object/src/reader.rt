@@ -1,6 +1,7 @@
 //! A reader over a file's bytes: a range of the file that ends with `bytes` is still to be read from `position` on, one
 //! object at a time.
-ghost use Rattle.std.specs.Prelude.{◌≡◌, ◌+◌, ◌^◌, ◌<◌, ◌≤◌, [], length, MatchBool, MatchOption};
+ghost use Rattle.std.specs.Prelude.{◌≡◌, ◌+◌, ◌^◌, ◌<◌, ◌≤◌, [], length, min, MatchBool, MatchOption};
+ghost use Rattle.object.specs.Objects.{IsNotOnly};
 
 use crate::header::{Header, read_header};
 use crate::object::Object;
@@ -23,7 +24,7 @@ pub struct Value<'a> {
 }
 
 impl<'a> Reader<'a> {
-    ghost use Rattle.object.specs.Readers.{rest_of, Taken, Stuck, Took, Missed};
+    ghost use Rattle.object.specs.Readers.{rest_of, Taken, Stuck, Took, Missed, IsOnly};
 
     /// A reader over all of the bytes, from their start.
     #[inline(always)]
@@ -31,7 +32,26 @@ impl<'a> Reader<'a> {
         ensures bytes { result.bytes.now ≡ bytes.now }
         ensures position { result.position ≡ 0 }
     {
-        Reader { bytes, position: 0 }
+        Reader::at(bytes, 0)
+    }
+
+    /// A reader over the bytes from a position on; at their end where the position is past it.
+    #[inline(always)]
+    pub fn starting(bytes: &'a [u8], position: usize) -> Reader<'a>
+        ensures bytes { result.bytes.now ≡ bytes.now }
+        ensures position { result.position ≡ min position (length bytes.now) }
+    {
+        Reader::at(bytes, position.min(bytes.len()))
+    }
+
+    /// A reader over the bytes from a position within them on.
+    #[inline(always)]
+    pub(crate) fn at(bytes: &'a [u8], position: usize) -> Reader<'a>
+        requires { position ≤ length bytes.now }
+        ensures bytes { result.bytes.now ≡ bytes.now }
+        ensures position { result.position ≡ position }
+    {
+        Reader { bytes, position }
     }
 
     /// The next object, if its header can be read and it ends within the range; the position is then past it.
@@ -64,7 +84,7 @@ impl<'a> Reader<'a> {
     /// The value of the next object, if it has this tag; the position is then past it, and else where it was.
     #[inline(always)]
     pub fn take(&mut self, tag: u16) -> Option<Value<'a>>
-        ensures { MatchOption result (Missed self.old self.new tag) (λ v. Took self.old self.new tag v.bytes.now × (v.place + length v.bytes.now ≡ self.new.position)) }
+        ensures { MatchOption result (Missed self.old self.new tag) (Took self.old self.new tag) }
     {
         let start = self.position;
         let object = self.next()?;
@@ -76,6 +96,15 @@ impl<'a> Reader<'a> {
             bytes: object.value(),
             place: object.place(),
         })
+    }
+
+    /// The value of the one object that is left to read, if it has this tag and nothing stands behind it.
+    #[inline(always)]
+    pub fn only(mut self, tag: u16) -> Option<Value<'a>>
+        ensures { MatchOption result (IsNotOnly (rest_of self.entry) tag) (IsOnly self.entry tag) }
+    {
+        let value = self.take(tag)?;
+        self.is_done().then_some(value)
     }
 
     /// Whether all of the range was read.

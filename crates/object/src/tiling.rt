@@ -11,7 +11,8 @@ use card::Failure;
 // Beside `read_objects`, which its like calls: this one also says that no other trees write the bytes.
 /// Whether objects tile what the reader has to read, on at most so many levels; else the smallest place at which an object is broken.
 pub fn tile(reader: Reader<'_>, levels: u8) -> Result<(), Failure>
-    ensures { MatchResult result (λ _. TiledOnce levels (rest_of reader.entry)) (λ failure. NowhereTiled levels reader.entry.position (rest_of reader.entry) failure.place) }
+    ensures { MatchResult result (λ _. TiledOnce levels (rest_of reader.entry))
+        (λ broken. NowhereTiled levels reader.entry.position (rest_of reader.entry) broken.place) }
 {
     read_objects(reader.bytes, reader.position, levels)
 }
@@ -20,7 +21,8 @@ pub fn tile(reader: Reader<'_>, levels: u8) -> Result<(), Failure>
 #[cycle(read_object_read_objects)]
 fn read_object(reader: &mut Reader<'_>, levels: u8) -> Result<(), Failure>
     requires { reader.old.position < length reader.old.bytes.now }
-    ensures { MatchResult result (λ _. Step levels reader.old reader.new) (λ failure. First levels reader.old.position (rest_of reader.old) failure.place) }
+    ensures { MatchResult result (λ _. Step levels reader.old reader.new)
+        (λ broken. First levels reader.old.position (rest_of reader.old) broken.place) }
 {
     let failure = Failure {
         place: reader.position,
@@ -44,9 +46,10 @@ fn read_object(reader: &mut Reader<'_>, levels: u8) -> Result<(), Failure>
 #[cycle(read_object_read_objects)]
 fn read_objects(bytes: &[u8], position: usize, levels: u8) -> Result<(), Failure>
     requires { position ≤ length bytes.now }
-    ensures { MatchResult result (λ _. Tiled levels (drop position bytes.now)) (λ failure. First levels position (drop position bytes.now) failure.place) }
+    ensures { MatchResult result (λ _. Tiled levels (drop position bytes.now))
+        (λ broken. First levels position (drop position bytes.now) broken.place) }
 {
-    let mut reader = Reader { bytes, position };
+    let mut reader = Reader::at(bytes, position);
     while reader.position < reader.bytes.len() {
         read_object(&mut reader, levels)?;
     }

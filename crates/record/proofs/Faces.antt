@@ -1,7 +1,7 @@
 -- The laws of DG2.
-use Rattle.std.proofs.Common.{◌≡◌, ℕ, zero, suc, ◌<◌, ◌≤◌, true, List, [], ◌∷◌, ◌++◌, length, sym, refl, ap, ◌∙◌, subst, inl, arith, length-append}
+use Rattle.std.proofs.Common.{◌≡◌, ℕ, zero, suc, ◌<◌, ◌≤◌, List, [], ◌∷◌, ◌++◌, length, sym, refl, ap, ◌∙◌, subst, arith, length-append}
 use Rattle.card.specs.Cards.{template_tag_of}
-use Rattle.object.specs.Objects.{Begins, LawfulTag, nests}
+use Rattle.object.specs.Objects.{Begins, nests}
 use Rattle.object.specs.Trees.{Tiled, none}
 use Rattle.object.proofs.Laws.{same, begins_long}
 use Rattle.object.proofs.Trees.{tiled_plain, tiled_nested}
@@ -9,17 +9,17 @@ use Rattle.faces.specs.Rows.{Row, Each, done, next}
 use Rattle.faces.specs.Groups.{Group}
 use Rattle.faces.specs.Faces.{Entry, Described}
 use Rattle.faces.specs.declared.lines.FaceLines.{FaceLines}
-use Rattle.cases.specs.Files.{FaceOwn, faces_blocked}
+use Rattle.card.specs.Profiles.{required}
+use Rattle.cases.specs.Files.{face_cases}
 use Rattle.cases.specs.Structures.{Framed}
 use Rattle.cases.specs.declared.structure.Structure.{Structure}
-use Rattle.cases.proofs.Tags.{tag_short}
 use Rattle.record.specs.Clean.{Clean, CleanFaces}
 use Rattle.record.specs.Laws.{OnePart, SomePart}
 use Rattle.record.specs.Parts.{object}
-use Rattle.record.specs.Faces.{Face, LawfulFace, header_value, entry_value, entries, group_value, faces_value, EachLawful, LawfulFaces, WritesFaces}
+use Rattle.record.specs.Faces.{Face, LawfulFace, header_value, entry_value, entries, group_value, faces_value, EachLawful, LawfulFaces, faces_form, WritesFaces}
 use Rattle.record.specs.FaceLaws.{FaceLaws}
 use Rattle.record.proofs.Gates.{passes, clean, opens, opened}
-use Rattle.record.proofs.Present.{structured, never_idle}
+use Rattle.record.proofs.Present.{always}
 use Rattle.record.proofs.Tags.{lawful_tag}
 use Rattle.record.proofs.Wholes.{holds, made, through, through_back, object_alone, alone_object, begins_object, begins_is, object_long}
 use Rattle.record.proofs.Headers.{header_lawful, header_tiled, lawful_header, one_face}
@@ -138,13 +138,10 @@ one_entries (face ∷ faces) (other ∷ others) a b l q =
     let r : faces ≡ others = one_entries faces others a.1 b.1 (others_small face faces l) s.2 in
     cc
 
-tag_2 : LawfulTag (template_tag_of 2)
-tag_2 = inl (tag_short 2 (omega arith))
-
 -- the group around them
 module _ (faces : List Face) (bytes : List ℕ) (w : WritesFaces faces bytes) where
   outer : Begins bytes (template_tag_of 2) (faces_value faces) []
-  outer = holds (template_tag_of 2) tag_2 LawfulFaces faces_value faces bytes w
+  outer = holds faces_form (omega arith) faces bytes w
 
   group_small : length (group_value faces) < 65536
   group_small = in_object 0x7F61 (group_value faces) outer.small
@@ -178,10 +175,10 @@ group_is : {value group rest : List ℕ} {count : ℕ} → Group value count gro
 group_is a = ap (object 0x7F61) (begins_is a.counted) ∙ alone_object a.alone
 
 module _ (lines : Structure) (own : FaceLines) (bytes : List ℕ) (l : length bytes ≤ 32767)
-    (g : Framed (template_tag_of 2) bytes lines (FaceOwn own) (own ≡ faces_blocked)) where
-  written : Clean lines.template × Clean lines.tiling × CleanFaces own → SomePart WritesFaces bytes
-  written c =
-      let w = through (template_tag_of 2) bytes lines (FaceOwn own) (own ≡ faces_blocked) g c.0 c.1 in
+    (g : Framed (template_tag_of 2) bytes lines (face_cases own)) where
+  clean_written : Clean lines.template × Clean lines.tiling × CleanFaces own → SomePart WritesFaces bytes
+  clean_written c =
+      let w = through (template_tag_of 2) bytes lines (face_cases own) g c.0 c.1 in
       let h = opens own.group _ _ _ _ w.3 c.2.0 in
       let p = opens own.entries _ _ _ _ h.1 c.2.1 in
       let d = passes own.features _ _ p.1 c.2.2 in
@@ -190,14 +187,14 @@ module _ (lines : Structure) (own : FaceLines) (bytes : List ℕ) (l : length by
       let e : faces_value f.0 ≡ w.0 = ap (λ z. object 0x7F61 (object 0x02 (z ∷ []) ++ entries f.0)) f.1
       ∙ ap (λ z. object 0x7F61 (object 0x02 (h.0.0 ∷ []) ++ z)) f.3 ∙ group_is r in
       let lawful : LawfulFaces f.0 = record { some = omega (arith, f.1, r.some); few = omega (arith, f.1, r.few); each = f.2 } in
-      (f.0, made (template_tag_of 2) tag_2 LawfulFaces faces_value f.0 bytes l lawful (subst (λ z. Begins bytes (template_tag_of 2) z []) (sym e) w.1))
+      (f.0, made faces_form (omega arith) f.0 bytes l lawful (subst (λ z. Begins bytes (template_tag_of 2) z []) (sym e) w.1))
 
-  unfailing : SomePart WritesFaces bytes → Clean lines.template × Clean lines.tiling × CleanFaces own
-  unfailing p =
+  written_clean : SomePart WritesFaces bytes → Clean lines.template × Clean lines.tiling × CleanFaces own
+  written_clean p =
       let faces = p.0 in
       let w = p.1 in
       let o = outer faces bytes w in
-      let k = through_back (template_tag_of 2) bytes lines (FaceOwn own) (own ≡ faces_blocked) g (faces_value faces) o (value_tiled faces bytes w) in
+      let k = through_back (template_tag_of 2) bytes lines (face_cases own) g (faces_value faces) o (value_tiled faces bytes w) in
       let h = opened own.group _ _ _ _ k.2 (length faces, group_value faces, entries faces, grouped faces bytes w) in
       let s : entries faces ≡ h.1.0.2 = entries_same (grouped faces bytes w) h.1.0.3 in
       let m = opened own.entries _ _ _ _ h.1.1 (subst (λ z. Each 0x7F60 Entry z) s (read faces bytes w).held) in
@@ -212,8 +209,8 @@ faces_one_part faces others bytes v w =
 
 pub face_laws : FaceLaws
 face_laws = record {
-  faces_clean_exactly_when_written = λ content lines own s j.
-      structured WritesFaces (template_tag_of 2) true content lines (FaceOwn own) (own ≡ faces_blocked) (CleanFaces own) s
-      (λ bytes l g. (written lines own bytes l g, unfailing lines own bytes l g)) never_idle j;
+  faces_clean_exactly_when_written = λ profile content lines own s h.
+      always WritesFaces (template_tag_of 2) lines (face_cases own) (CleanFaces own)
+      (λ bytes l g. (clean_written lines own bytes l g, written_clean lines own bytes l g)) (required profile 2) content s profile.lawful.3 h;
   faces_written_by_one_part = faces_one_part;
 }

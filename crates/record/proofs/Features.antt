@@ -7,7 +7,7 @@ use Rattle.object.specs.Trees.{Tiled, none}
 use Rattle.object.proofs.Laws.{same, begins_long}
 use Rattle.object.proofs.Trees.{tiled_plain}
 use Rattle.faces.specs.declared.features.Feature.{Feature}
-use Rattle.faces.specs.Rising.{feature_list, Listed, Rising, stop, more, Has, here, later}
+use Rattle.faces.specs.Rising.{feature_list, Listed, RisingFeatures, stop, more, Has, here, later}
 use Rattle.record.specs.Faces.{Sized, feature}
 use Rattle.record.proofs.Tags.{is_lawful, lawful_tag}
 use Rattle.record.proofs.Wholes.{begins_object, begins_is}
@@ -68,24 +68,24 @@ above (f ∷ list) last tag size h (inl a) = omega (arith, a.0)
 above (f ∷ list) last tag size h (inr a) = omega (arith, above list f.tag tag size h.4 a)
 
 -- past its tag the first feature of the list is not used
-narrow : (f : Feature) (list : List Feature) {last : ℕ} {bytes : List ℕ} → Rising (f ∷ list) last bytes → f.tag ≤ last → Rising list last bytes
+narrow : (f : Feature) (list : List Feature) {last : ℕ} {bytes : List ℕ} → RisingFeatures (f ∷ list) last bytes → f.tag ≤ last → RisingFeatures list last bytes
 narrow f list stop l = stop
 narrow f list (more t v r b m (inl a) s) l = absurd (omega (arith, a.0))
 narrow f list (more t v r b m (inr a) s) l = more t v r b m a (narrow f list s (omega arith))
 
-widen : (f : Feature) (list : List Feature) (least : ℕ) {last : ℕ} {bytes : List ℕ} → Rising list last bytes → least ≤ last → Rising (f ∷ list) least bytes
+widen : (f : Feature) (list : List Feature) (least : ℕ) {last : ℕ} {bytes : List ℕ} → RisingFeatures list last bytes → least ≤ last → RisingFeatures (f ∷ list) least bytes
 widen f list least stop l = stop
 widen f list least (more t v r b m a s) l = more t v r b (omega arith) (inr a) (widen f list t s (omega arith))
 
 -- objects in rising order are what some values write
-pub rising_values : (list : List Feature) (last : ℕ) {bytes : List ℕ} → Ascends last list → Rising list last bytes
+pub rising_values : (list : List Feature) (last : ℕ) {bytes : List ℕ} → Ascends last list → RisingFeatures list last bytes
     → (vs : Values list) × AllSized list vs × (written list vs ≡ bytes)
 rising_values [] last h stop = (tt, tt, refl)
 rising_values [] last h (more t v r b m a s) = absurd a
 rising_values (f ∷ list) last h stop = let w = rising_values list f.tag h.4 stop in ((None, w.0), (tt, w.1), w.2)
 rising_values (f ∷ list) last {bytes} h (more t v r b m (inl a) s) =
     let c = subst (λ n. Begins bytes n v r) (sym a.0) b in
-    let w = rising_values list f.tag h.4 (subst (λ n. Rising list n r) (sym a.0) (narrow f list s (omega (arith, a.0)))) in
+    let w = rising_values list f.tag h.4 (subst (λ n. RisingFeatures list n r) (sym a.0) (narrow f list s (omega (arith, a.0)))) in
     ((Some v, w.0), ((a.1, a.2), w.1), ap (λ z. feature f.tag (Some v) ++ z) w.2 ∙ begins_is c)
 rising_values (f ∷ list) last h (more t v r b m (inr a) s) =
     let k = above list f.tag t (length v) h.4 a in
@@ -98,7 +98,7 @@ first : (f : Feature) (list : List Feature) (last : ℕ) (v : List ℕ) (vs : Va
 first f list last v vs h s = begins_object f.tag v (written list vs) h.1 (omega (arith, h.3, s.0.1))
 
 -- values are written as objects in rising order
-pub values_rising : (list : List Feature) (last : ℕ) (vs : Values list) → Ascends last list → AllSized list vs → Rising list last (written list vs)
+pub values_rising : (list : List Feature) (last : ℕ) (vs : Values list) → Ascends last list → AllSized list vs → RisingFeatures list last (written list vs)
 values_rising [] last vs h s = stop
 values_rising (f ∷ list) last (None, vs) h s = widen f list last (values_rising list f.tag vs h.4 s.1) (omega arith)
 values_rising (f ∷ list) last (Some v, vs) h s =

@@ -12,10 +12,14 @@ pub mod ZoneFields
 pub mod ZoneLines
 pub mod Puts
 pub mod Zones
-pub mod Printed
 pub mod Features
 pub mod Headers
 pub mod Faces
+pub mod Rows
+pub mod Purposes
+pub mod Givens
 pub mod Cards
-pub mod Samples
 pub mod All
+pub mod Computed
+pub mod Printed
+pub mod Samples

@@ -3,10 +3,11 @@ use Rattle.std.proofs.Common.{◌≡◌, ℕ, zero, suc, ◌+◌, ◌-◌, ◌*�
 use Rattle.std.proofs.lemmas.Bool.{cases_eq}
 use Rattle.text.specs.Characters.{filler, Digit}
 use Rattle.text.specs.Digits.{value_of, weight_at, weighted, check_digit_of}
+use Rattle.text.specs.Names.{AllFillers}
 use Rattle.zone.specs.Fields.{ZoneCharacters, Optional}
 use Rattle.zone.specs.Layouts.{span, part}
 use Rattle.zone.specs.declared.layout.Span.{Span}
-use Rattle.record.specs.Zones.{UnusedDigit, untold, a_filler, a_zero, AllFillers, RightlyTold}
+use Rattle.record.specs.Zones.{UnusedDigit, untold, a_filler, a_zero, RightlyTold}
 use Rattle.record.specs.ZoneWriting.{check_character, write_optional_digit}
 use Rattle.record.proofs.Slots.{one, one_is}
 

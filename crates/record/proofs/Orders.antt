@@ -2,7 +2,7 @@
 use Rattle.std.proofs.Common.{◌≡◌, ℕ, zero, suc, ◌<◌, true, ◌⊎◌, List, length, get_or, sym, ap, ◌∙◌, subst, inl, inr, ⊎_elim, arith}
 use Rattle.std.proofs.lemmas.Bool.{cases_lt, cases_eq}
 use Rattle.card.specs.Sets.{has}
-use Rattle.common.specs.Tags.{group_tag, Sound, SetOf}
+use Rattle.common.specs.Tags.{group_tag, SoundTags, SetOf}
 use Rattle.common.proofs.Members.{tag_apart, one_set}
 use Rattle.record.specs.Parts.{Order}
 
@@ -17,7 +17,7 @@ find (suc k) byte = ⊎_elim
     (cases_eq (group_tag k) byte))
     (find k byte)
 
-pub order_from : (declared : ℕ) (tags : List ℕ) → Sound tags (length tags) → SetOf tags (length tags) declared → Order declared tags
+pub order_from : (declared : ℕ) (tags : List ℕ) → SoundTags tags (length tags) → SetOf tags (length tags) declared → Order declared tags
 order_from declared tags k s = record {
   only = λ i l. ⊎_elim
       (λ w. (w.0, w.1, (s w.0 w.1).0 (i, l, sym w.2), w.2))
@@ -28,7 +28,7 @@ order_from declared tags k s = record {
 }
 
 module _ (declared : ℕ) (tags : List ℕ) (o : Order declared tags) where
-  pub order_sound : Sound tags (length tags)
+  pub order_sound : SoundTags tags (length tags)
   order_sound i l b = ⊎_elim
       (λ none. let w = o.only i l in none (w.0, w.1, w.3))
       (λ q. o.once q.0 i q.1 l q.2) b

@@ -1,26 +1,18 @@
--- The fields of the printed zones are lawful, by computed tests.
-use Rattle.std.proofs.Common.{◌≡◌, ℕ, zero, suc, ◌+◌, ◌-◌, ◌<◌, Bool, true, not, ◌&&◌, ◌||◌, eqb, ltb, leb, List, length, get_or, codes, sym, refl, ap, ◌∙◌, ⊎_elim, arith, rules}
-use Rattle.std.proofs.lemmas.Bool.{cases_eq, and_parts, eqb-true}
+-- The fields of the sample zones are lawful, by computed tests.
+use Rattle.std.proofs.Common.{◌≡◌, ℕ, zero, suc, ◌+◌, ◌-◌, ◌<◌, Bool, true, not, ◌&&◌, ◌||◌, eqb, ltb, leb, List, length, get_or, codes, sym, refl, ◌∙◌, arith, rules}
+use Rattle.std.proofs.lemmas.Bool.{and_parts, eqb-true}
 use Rattle.std.proofs.lemmas.Bool.Decides.{nat_tests}
+use Rattle.card.specs.declared.profile.Kind.{Kind}
+use Rattle.card.specs.declared.profile.Kind.TheVariants.{Td1, Td2, Td3}
 use Rattle.text.specs.Characters.{filler, PlainCharacter, ZoneCharacter}
 use Rattle.text.specs.Dates.{Date}
-use Rattle.text.specs.Names.{Pair, LetterAt, Name}
+use Rattle.text.specs.Names.{Pair, LetterAt, Name, AllFillers}
 use Rattle.zone.specs.Fields.{ZoneCharacters, Code, State}
-use Rattle.zone.specs.Layouts.{layout_of}
+use Rattle.zone.specs.Layouts.{places_of}
 use Rattle.record.specs.Zones.{Field, code, issuer, name, number, nationality, birth, sex, expiry, first_optional, second_optional}
-use Rattle.record.specs.Zones.{untold, Fields, characters_of, width, RightlyTold, LawfulFields}
-use Rattle.record.specs.ZoneSamples.{eriksson, td1_fields, td2_fields, td3_fields}
-
--- a test that holds of each number below n
-abbrev below : ℕ → (ℕ → Bool) → Bool
-below zero t = true
-below (suc n) t = t n && below n t
-
-below_true : (n : ℕ) (t : ℕ → Bool) → below n t ≡ true → (k : ℕ) → k < n → t k ≡ true
-below_true zero t h k l = absurd (omega arith)
-below_true (suc n) t h k l =
-    let p = and_parts (t n) (below n t) h in
-    ⊎_elim (λ e. ap t e ∙ p.0) (λ e. below_true n t p.1 k (omega arith)) (cases_eq k n)
+use Rattle.record.specs.Zones.{UnusedDigit, untold, a_filler, a_zero, Fields, characters_of, width, RightlyTold, LawfulFields}
+use Rattle.record.specs.ZoneSamples.{eriksson, td1_fields, td2_fields, td3_fields, unused_fields}
+use Rattle.record.proofs.Computed.{below, below_true}
 
 -- tests of characters
 abbrev is_plain : ℕ → Bool
@@ -86,11 +78,14 @@ born = search rules
 expires : Date (codes "120415")
 expires = search rules
 
+unused : AllFillers (codes "<<<<<<<<<<<<<<")
+unused k l = eqb-true (get_or (codes "<<<<<<<<<<<<<<") k 0) filler (below_true 14 (λ j. eqb (get_or (codes "<<<<<<<<<<<<<<") j 0) filler) refl k l)
+
 -- a field has its width, and its characters are those of a zone
-abbrev field_test : ℕ → Fields → Field → Bool
+abbrev field_test : Kind → Fields → Field → Bool
 field_test kind fields f = eqb (length (characters_of fields f)) (width kind f) && zone_test (characters_of fields f)
 
-abbrev Tested : ℕ → Fields → Field → Type 0
+abbrev Tested : Kind → Fields → Field → Type 0
 Tested kind fields f = field_test kind fields f ≡ true
 
 each : (P : Field → Type 0) → P code → P issuer → P name → P number → P nationality → P birth → P sex → P expiry → P first_optional → P second_optional
@@ -106,12 +101,16 @@ each P a b c d e f g h i j expiry = h
 each P a b c d e f g h i j first_optional = i
 each P a b c d e f g h i j second_optional = j
 
--- the fields of a printed zone are lawful where those that differ are
-lawful : (kind : ℕ) (c n d first second : List ℕ) → ((f : Field) → Tested kind (eriksson c n d first second) f)
-    → Code (layout_of kind).passport c → LetterAt n 0 → name_test n 20 8 ≡ true → (get_or d 0 0 ≡ filler → ⊥)
-    → RightlyTold (layout_of kind).optional untold first → LawfulFields kind (eriksson c n d first second)
-lawful kind c n d first second t coded starts named numbered told =
-    let of = characters_of (eriksson c n d first second) in
+-- the fields of a sample zone
+abbrev specimen : List ℕ → List ℕ → List ℕ → List ℕ → List ℕ → UnusedDigit → Fields
+specimen c n d first second told = record (eriksson c n d first second) { unused_digit = told }
+
+-- they are lawful where those that differ are
+lawful : (kind : Kind) (c n d first second : List ℕ) (said : UnusedDigit) → ((f : Field) → Tested kind (specimen c n d first second said) f)
+    → Code (places_of kind).passport c → LetterAt n 0 → name_test n 20 8 ≡ true → (get_or d 0 0 ≡ filler → ⊥)
+    → RightlyTold (places_of kind).optional said first → LawfulFields kind (specimen c n d first second said)
+lawful kind c n d first second said t coded starts named numbered told =
+    let of = characters_of (specimen c n d first second said) in
     let parts : (f : Field) → (eqb (length (of f)) (width kind f) ≡ true) × (zone_test (of f) ≡ true)
     = λ f. and_parts (eqb (length (of f)) (width kind f)) (zone_test (of f)) (t f) in
     record {
@@ -128,14 +127,23 @@ lawful kind c n d first second t coded starts named numbered told =
       unused_digit = told;
     }
 
-pub td1_lawful : LawfulFields 1 td1_fields
-td1_lawful = lawful 1 _ _ _ _ _ (each (Tested 1 td1_fields) refl refl refl refl refl refl refl refl refl refl)
+pub td1_lawful : LawfulFields Td1 td1_fields
+td1_lawful = lawful Td1 _ _ _ _ _ untold (each (Tested Td1 td1_fields) refl refl refl refl refl refl refl refl refl refl)
     (search rules) (search rules) refl (λ e. omega arith) refl
 
-pub td2_lawful : LawfulFields 2 td2_fields
-td2_lawful = lawful 2 _ _ _ _ _ (each (Tested 2 td2_fields) refl refl refl refl refl refl refl refl refl refl)
+pub td2_lawful : LawfulFields Td2 td2_fields
+td2_lawful = lawful Td2 _ _ _ _ _ untold (each (Tested Td2 td2_fields) refl refl refl refl refl refl refl refl refl refl)
     (search rules) (search rules) refl (λ e. omega arith) refl
 
-pub td3_lawful : LawfulFields 3 td3_fields
-td3_lawful = lawful 3 _ _ _ _ _ (each (Tested 3 td3_fields) refl refl refl refl refl refl refl refl refl refl)
+pub td3_lawful : LawfulFields Td3 td3_fields
+td3_lawful = lawful Td3 _ _ _ _ _ untold (each (Tested Td3 td3_fields) refl refl refl refl refl refl refl refl refl refl)
     (search rules) (search rules) refl (λ e. omega arith) (λ h. let z = h 0 (omega arith) in omega arith)
+
+-- the two with an unused optional field
+pub filler_lawful : LawfulFields Td3 (unused_fields a_filler)
+filler_lawful = lawful Td3 _ _ _ _ _ a_filler (each (Tested Td3 (unused_fields a_filler)) refl refl refl refl refl refl refl refl refl refl)
+    (search rules) (search rules) refl (λ e. omega arith) unused
+
+pub zero_lawful : LawfulFields Td3 (unused_fields a_zero)
+zero_lawful = lawful Td3 _ _ _ _ _ a_zero (each (Tested Td3 (unused_fields a_zero)) refl refl refl refl refl refl refl refl refl refl)
+    (search rules) (search rules) refl (λ e. omega arith) unused

@@ -1,12 +1,14 @@
 -- A file is one object, its template: what this gives for any kind of part.
-use Rattle.std.proofs.Common.{◌≡◌, ℕ, ◌<◌, ◌≤◌, List, [], ◌++◌, length, sym, ◌∙◌, append_assoc, append-nil, arith, length-append}
+use Rattle.std.proofs.Common.{◌≡◌, ℕ, ◌<◌, ◌≤◌, List, [], ◌++◌, length, sym, ◌∙◌, append_assoc, append-nil, inl, arith, length-append}
 use Rattle.object.specs.Objects.{Begins, LawfulTag, header_size}
 use Rattle.object.specs.Trees.{Tiled}
 use Rattle.object.proofs.Laws.{same}
-use Rattle.cases.specs.Structures.{Framed}
+use Rattle.card.specs.Cards.{template_tag_of}
+use Rattle.cases.specs.Structures.{Later, Framed}
 use Rattle.cases.specs.declared.structure.Structure.{Structure}
 use Rattle.record.specs.Clean.{Clean}
-use Rattle.record.specs.Parts.{object, Writes}
+use Rattle.cases.proofs.Tags.{tag_short}
+use Rattle.record.specs.Parts.{object, Form, Writes}
 use Rattle.record.specs.Laws.{OnePart}
 use Rattle.record.proofs.Gates.{opens, opened}
 
@@ -28,26 +30,30 @@ pub object_long : (tag : ℕ) (value : List ℕ) → length value ≤ length (ob
 object_long tag value = simp length-append (omega arith)
 
 -- a part's value stands in the template of the file that it writes, and no other part has this value
-module _ {Part : Type 0} (tag : ℕ) (lawful : LawfulTag tag) (Lawful : Part → Type 0) (value : Part → List ℕ) where
-  pub holds : (part : Part) (bytes : List ℕ) → Writes tag Lawful value part bytes → Begins bytes tag (value part) []
-  holds part bytes w = rw (← w.written) (object_alone tag (value part) lawful (omega (arith, w.fits, object_long tag (value part))))
+module _ {Part : Type 0} (form : Form Part) (low : form.file ≤ 17) where
+  pub holds : (part : Part) (bytes : List ℕ) → Writes form part bytes → Begins bytes (template_tag_of form.file) (form.value part) []
+  holds part bytes w =
+      rw (← w.written) (object_alone (template_tag_of form.file) (form.value part) (inl (tag_short form.file low))
+      (omega (arith, w.fits, object_long (template_tag_of form.file) (form.value part))))
 
-  pub made : (part : Part) (bytes : List ℕ) → length bytes ≤ 32767 → Lawful part → Begins bytes tag (value part) [] → Writes tag Lawful value part bytes
+  pub made : (part : Part) (bytes : List ℕ) → length bytes ≤ 32767 → form.lawful part → Begins bytes (template_tag_of form.file) (form.value part) []
+      → Writes form part bytes
   made part bytes l h b = let e = alone_object b in record { lawful = h; fits = rw e l; written = e }
 
-  pub one_part : ((x y : Part) → Lawful x → Lawful y → value x ≡ value y → x ≡ y) → OnePart (Writes tag Lawful value)
+  pub one_part : ((x y : Part) → form.lawful x → form.lawful y → form.value x ≡ form.value y → x ≡ y) → OnePart (Writes form)
   one_part u x y bytes a b = u x y a.lawful b.lawful (same (holds x bytes a) (holds y bytes b)).1
 
 -- cases 2 and 3 do not fail exactly if the file is its template and objects tile the value
-module _ (tag : ℕ) (bytes : List ℕ) (lines : Structure) (later : ℕ → List ℕ → Type 0) (blocked : Type 0) (framed : Framed tag bytes lines later blocked) where
-  pub through : Clean lines.template → Clean lines.tiling → (value : List ℕ) × Begins bytes tag value [] × Tiled 15 value × later (header_size tag value) value
+module _ (tag : ℕ) (bytes : List ℕ) (lines : Structure) (later : Later) (framed : Framed tag bytes lines later) where
+  pub through : Clean lines.template → Clean lines.tiling
+      → (value : List ℕ) × Begins bytes tag value [] × Tiled 15 value × later.judged (header_size tag value) value
   through c d =
       let a = opens lines.template _ _ _ _ framed c in
       let b = opens lines.tiling _ _ _ _ a.1 d in
       (a.0.0, a.0.1, b.0, b.1)
 
   pub through_back : (value : List ℕ) → Begins bytes tag value [] → Tiled 15 value
-      → Clean lines.template × Clean lines.tiling × later (header_size tag value) value
+      → Clean lines.template × Clean lines.tiling × later.judged (header_size tag value) value
   through_back value b u =
       let a = opened lines.template _ _ _ _ framed (value, b) in
       let e = (same a.1.0.1 b).1 in

@@ -1,9 +1,10 @@
 -- A zone is right exactly if lawful fields write it, and no two fields write the same zone.
 use Rattle.std.proofs.Common.{◌≡◌, ℕ, ◌-◌, ◌<◌, List, [], ◌∷◌, length, get_or, IfSome, sym, refl, ap, ◌∙◌, subst, arith, take_all}
+use Rattle.card.specs.declared.profile.Kind.{Kind}
 use Rattle.text.specs.Dates.{Date}
 use Rattle.text.specs.Names.{Name}
 use Rattle.zone.specs.Fields.{ZoneCharacters, Code, State, RightDigit, Number, Dated, Sex, Optional, Composite}
-use Rattle.zone.specs.Layouts.{layout_of, part, covered, Within}
+use Rattle.zone.specs.Layouts.{places_of, part, covered, Within}
 use Rattle.zone.specs.declared.layout.Places.{Places}
 use Rattle.record.specs.Zones.{Field, code, issuer, name, number, nationality, birth, sex, expiry, first_optional, second_optional}
 use Rattle.record.specs.Zones.{UnusedDigit, Fields, characters_of, field_span, RightlyTold, LawfulFields}
@@ -29,24 +30,24 @@ pub record Right (p : Places) (zone : List ℕ) : Type 0 where
   pub composite : Composite zone p.cover p.composite
 
 -- what is written into each slot of the whole zone
-abbrev slots : ℕ → Fields → Slot → List ℕ
+abbrev slots : Kind → Fields → Slot → List ℕ
 slots kind fields = write_slot kind fields (composite_character kind fields ∷ [])
 
 -- the slots of a zone hold what is written into them, where this is written for the composite
-abbrev Filled : ℕ → Fields → List ℕ → List ℕ → Type 0
+abbrev Filled : Kind → Fields → List ℕ → List ℕ → Type 0
 Filled kind fields whole zone = (s : Slot) → cut kind zone s ≡ write_slot kind fields whole s
 
-slot_width : (kind : ℕ) (fields : Fields) → LawfulFields kind fields → (s : Slot)
+slot_width : (kind : Kind) (fields : Fields) → LawfulFields kind fields → (s : Slot)
     → length (slots kind fields s) ≡ (slot_span kind s).end - (slot_span kind s).start
 slot_width kind fields h (field f) = h.widths f
 slot_width kind fields h (digit f) = omega arith
-slot_width kind fields h optional_digit = omega (arith, told_length (layout_of kind).optional fields.unused_digit fields.first_optional)
+slot_width kind fields h optional_digit = omega (arith, told_length (places_of kind).optional fields.unused_digit fields.first_optional)
 slot_width kind fields h composite = omega arith
 
-slot_characters : (kind : ℕ) (fields : Fields) → LawfulFields kind fields → (s : Slot) → ZoneCharacters (slots kind fields s)
+slot_characters : (kind : Kind) (fields : Fields) → LawfulFields kind fields → (s : Slot) → ZoneCharacters (slots kind fields s)
 slot_characters kind fields h (field f) = h.characters f
 slot_characters kind fields h (digit f) = check_is_character (characters_of fields (checked f))
-slot_characters kind fields h optional_digit = told_characters (layout_of kind).optional fields.unused_digit fields.first_optional
+slot_characters kind fields h optional_digit = told_characters (places_of kind).optional fields.unused_digit fields.first_optional
 slot_characters kind fields h composite = check_is_character (covered_characters kind fields)
 
 -- fields by their characters
@@ -81,36 +82,36 @@ characters_are t u second_optional = refl
 same_fields : (f g : Fields) → ((k : Field) → characters_of f k ≡ characters_of g k) → f.unused_digit ≡ g.unused_digit → f ≡ g
 same_fields f g e d = λ i. fields_of (λ k. e k i) (d i)
 
-module _ (kind : ℕ) (law : Laid kind) where
+module _ (kind : Kind) (law : Laid kind) where
   covered_same : (fields : Fields) (whole zone : List ℕ) → Filled kind fields whole zone
-      → covered zone (layout_of kind).cover ≡ covered_characters kind fields
+      → covered zone (places_of kind).cover ≡ covered_characters kind fields
   covered_same fields whole zone h =
       let t = write_slot kind fields whole in
       law.cover zone ∙ joined_same (cut kind zone) t (covered_slots kind) (all_of (λ s. cut kind zone s ≡ t s) h (covered_slots kind)) ∙ law.apart fields whole
 
   -- a zone whose slots are filled is what is written
-  filled : (fields : Fields) (zone : List ℕ) → length zone ≡ (layout_of kind).len → Filled kind fields (composite_character kind fields ∷ []) zone
+  filled : (fields : Fields) (zone : List ℕ) → length zone ≡ (places_of kind).len → Filled kind fields (composite_character kind fields ∷ []) zone
       → write_zone kind fields ≡ zone
   filled fields zone n h =
       let t = slots kind fields in
       sym (joined_same (cut kind zone) t (order kind) (all_of (λ s. cut kind zone s ≡ t s) h (order kind)))
-      ∙ joined_parts (slot_span kind) zone (order kind) 0 (layout_of kind).len law.chain
-      ∙ take_all ((layout_of kind).len - 0) zone (omega arith)
+      ∙ joined_parts (slot_span kind) zone (order kind) 0 (places_of kind).len law.chain
+      ∙ take_all ((places_of kind).len - 0) zone (omega arith)
 
   -- lawful fields write a zone that is right
   module _ (fields : Fields) (h : LawfulFields kind fields) where
     abbrev zone : List ℕ
     zone = write_zone kind fields
 
-    pub zone_length : length zone ≡ (layout_of kind).len
+    pub zone_length : length zone ≡ (places_of kind).len
     zone_length =
-        let e = joined_length (slot_span kind) (slots kind fields) (slot_width kind fields h) (order kind) 0 (layout_of kind).len law.chain in
+        let e = joined_length (slot_span kind) (slots kind fields) (slot_width kind fields h) (order kind) 0 (places_of kind).len law.chain in
         omega arith
 
     fills : Filled kind fields (composite_character kind fields ∷ []) zone
     fills =
         law.every (λ s. cut kind zone s ≡ slots kind fields s)
-        (parts_joined (slot_span kind) (slots kind fields) (slot_width kind fields h) zone [] (order kind) 0 (layout_of kind).len refl law.chain refl)
+        (parts_joined (slot_span kind) (slots kind fields) (slot_width kind fields h) zone [] (order kind) 0 (places_of kind).len refl law.chain refl)
 
     right_digit : (f : CheckedField) → RightDigit zone (field_span kind (checked f))
     right_digit f =
@@ -121,9 +122,9 @@ module _ (kind : ℕ) (law : Laid kind) where
         → get_or (characters_of fields f) 0 0 ≡ get_or zone (field_span kind f).start 0
     first_character f l = ap (λ xs. get_or xs 0 0) (sym (fills (field f))) ∙ part_first zone (field_span kind f) l
 
-    pub right : Right (layout_of kind) zone
+    pub right : Right (places_of kind) zone
     right =
-        let p = layout_of kind in
+        let p = places_of kind in
         let c = composite_character kind fields in
         record {
           characters = joined_characters (slots kind fields) (slot_characters kind fields h) (order kind);
@@ -141,15 +142,15 @@ module _ (kind : ℕ) (law : Laid kind) where
         }
 
   -- a zone that is right is written by the fields that are read off it
-  module _ (zone : List ℕ) (n : length zone ≡ (layout_of kind).len) (h : Right (layout_of kind) zone) where
+  module _ (zone : List ℕ) (n : length zone ≡ (places_of kind).len) (h : Right (places_of kind) zone) where
     within : (s : Slot) → Within (length zone) (slot_span kind s)
     within s =
-        rw n (law.every (λ t. Within (layout_of kind).len (slot_span kind t))
-        (chain_within (slot_span kind) (order kind) 0 (layout_of kind).len law.chain) s)
+        rw n (law.every (λ t. Within (places_of kind).len (slot_span kind t))
+        (chain_within (slot_span kind) (order kind) 0 (places_of kind).len law.chain) s)
 
-    said : (u : UnusedDigit) × RightlyTold (layout_of kind).optional u (cut kind zone (field first_optional))
-        × (cut kind zone optional_digit ≡ write_optional_digit (layout_of kind).optional u (cut kind zone (field first_optional)))
-    said = told (layout_of kind).optional zone (field_span kind first_optional) law.optional h.optional (within optional_digit).1
+    said : (u : UnusedDigit) × RightlyTold (places_of kind).optional u (cut kind zone (field first_optional))
+        × (cut kind zone optional_digit ≡ write_optional_digit (places_of kind).optional u (cut kind zone (field first_optional)))
+    said = told (places_of kind).optional zone (field_span kind first_optional) law.optional h.optional (within optional_digit).1
 
     abbrev read : Fields
     read = fields_of (λ f. cut kind zone (field f)) said.0
@@ -177,7 +178,7 @@ module _ (kind : ℕ) (law : Laid kind) where
       code = h.code;
       issuer = h.issuer;
       name = h.name;
-      number = λ e. h.number.0 (sym (part_first zone (layout_of kind).number law.number) ∙ e);
+      number = λ e. h.number.0 (sym (part_first zone (places_of kind).number law.number) ∙ e);
       nationality = h.nationality;
       birth = h.birth.0;
       sex = subst Sex (sym (part_first zone (field_span kind sex) (omega arith))) h.sex;
@@ -187,15 +188,15 @@ module _ (kind : ℕ) (law : Laid kind) where
 
     pub written : (fields : Fields) × LawfulFields kind fields × (write_zone kind fields ≡ zone)
     written =
-        let d = get_or zone (layout_of kind).composite 0 in
-        let e = one zone (layout_of kind).composite (omega (arith, (within composite).1)) in
+        let d = get_or zone (places_of kind).composite 0 in
+        let e = one zone (places_of kind).composite (omega (arith, (within composite).1)) in
         let c : d ≡ composite_character kind read = h.composite ∙ ap check_character (covered_same read (d ∷ []) zone (read_fills d e)) in
         (read, read_lawful, filled read zone n (read_fills (composite_character kind read) (e ∙ ap (λ x. x ∷ []) c)))
 
   -- fields that write the same zone are the same
   pub one_fields : (f g : Fields) → LawfulFields kind f → LawfulFields kind g → write_zone kind f ≡ write_zone kind g → f ≡ g
   one_fields f g p q e =
-      let o = (layout_of kind).optional in
+      let o = (places_of kind).optional in
       let same : (s : Slot) → slots kind f s ≡ slots kind g s = λ s. sym (fills f p s) ∙ ap (λ z. cut kind z s) e ∙ fills g q s in
       let t : f.first_optional ≡ g.first_optional = same (field first_optional) in
       same_fields f g (λ k. same (field k)) (told_once o f.unused_digit g.unused_digit f.first_optional p.unused_digit

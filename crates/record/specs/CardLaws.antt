@@ -1,9 +1,12 @@
 -- What the lines of a whole card have to do with records.
-use Rattle.std.specs.Prelude.{◌≡◌, ℕ, ◌<◌, ◌≤◌, List, Some, ◌≢◌}
+use Rattle.std.specs.Prelude.{◌≡◌, ℕ, ◌≤◌, List, Some, ◌≢◌}
 use Rattle.card.specs.Cards.{Files, Short}
-use Rattle.card.specs.Profiles.{Lawful}
-use Rattle.card.specs.Sheets.{HasLine, CardLines}
-use Rattle.verdict.specs.Verdicts.{CardGives}
+use Rattle.card.specs.Cases.{HasLine}
+use Rattle.card.specs.Profiles.{kind_of}
+use Rattle.card.specs.Sheets.{CardLines}
+use Rattle.card.specs.declared.profile.Kind.{Kind}
+use Rattle.card.specs.declared.profile.Profile.{Profile}
+use Rattle.cases.specs.Verdicts.{CardGives}
 use Rattle.record.specs.Clean.{Clean}
 use Rattle.record.specs.Digits.{DigitChanged}
 use Rattle.record.specs.Laws.{Iff}
@@ -18,7 +21,7 @@ abbrev pub CleanCard : CardLines → Type 0
 CleanCard lines = (case file : ℕ) → HasLine case file → Clean (lines case file)
 
 -- the cards differ in DG1 alone, in which one digit at a checked place of the zone of this kind is put for another
-pub record CardChanged (kind : ℕ) (files changed : Files) : Type 0 where
+pub record CardChanged (kind : Kind) (files changed : Files) : Type 0 where
   pub others : (file : ℕ) → file ≤ 17 → (file ≢ 1) → changed file ≡ files file
   pub before : List ℕ
   pub after : List ℕ
@@ -26,13 +29,19 @@ pub record CardChanged (kind : ℕ) (files changed : Files) : Type 0 where
   pub zone_after : changed 1 ≡ Some after
   pub digit : DigitChanged kind before after
 
--- for all files and all lawful profiles
+-- for all files and all profiles
 pub record CardLaws : Type 0 where
   -- no line fails exactly when a record of the profile writes the files
-  pub clean_exactly_when_written : (kind declared : ℕ) → Lawful kind declared → declared < 65536 → (files : Files) → AllShort files
-      → (lines : CardLines) → CardGives kind declared files lines → Iff (CleanCard lines) (WrittenUnder kind declared files)
+  pub clean_exactly_when_written :
+      (profile : Profile) (files : Files) → AllShort files
+      → (lines : CardLines) → CardGives profile files lines
+      → Iff (CleanCard lines) (WrittenUnder profile files)
   -- two records, of whatever profiles, that write the same files are equal
-  pub written_by_one_record_only : (r other : Record) (files : Files) → WritesCard r files → WritesCard other files → r ≡ other
+  pub written_by_one_record_only :
+      (r other : Record) (files : Files) → WritesCard r files → WritesCard other files → r ≡ other
   -- where a record writes the files, some line of the files with a changed digit fails, under any profile
-  pub changed_digit_is_never_clean : (r : Record) (files changed : Files) → WritesCard r files → CardChanged r.kind files changed
-      → (kind declared : ℕ) → Lawful kind declared → (lines : CardLines) → CardGives kind declared changed lines → CleanCard lines → ⊥
+  pub changed_digit_is_never_clean :
+      (r : Record) (files changed : Files)
+      → WritesCard r files → CardChanged (kind_of r.profile) files changed
+      → (profile : Profile) (lines : CardLines) → CardGives profile changed lines
+      → CleanCard lines → ⊥

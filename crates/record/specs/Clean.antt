@@ -20,7 +20,9 @@ CleanStructure lines = Clean lines.present × Clean lines.template × Clean line
 
 -- none of the lines of cases 4 to 8 fails
 abbrev pub CleanCommon : CommonLines → Type 0
-CleanCommon lines = Clean lines.contents × Clean lines.version × Clean lines.unicode × Clean lines.tags × Clean lines.declared
+CleanCommon lines =
+    Clean lines.contents × Clean lines.version × Clean lines.unicode
+    × Clean lines.tags × Clean lines.declared
 
 -- none of the lines of cases 9 to 20 fails
 pub record CleanZone (lines : ZoneLines) : Type 0 where

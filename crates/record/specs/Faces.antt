@@ -1,7 +1,6 @@
 -- The part of a record that is DG2: its face entries, and the file that they write.
 use Rattle.std.specs.Prelude.{ℕ, ◌<◌, ◌≤◌, List, [], ◌∷◌, ◌++◌, length, Some, None, Option}
-use Rattle.card.specs.Cards.{template_tag_of}
-use Rattle.record.specs.Parts.{object, Writes}
+use Rattle.record.specs.Parts.{object, Form, Writes}
 
 -- A face entry: six features of its header, each with its tag here, of which any may be absent, and the face block. The
 -- header's two other features, 87 and 88, are the same in every entry.
@@ -50,8 +49,9 @@ format = 0x00 ∷ 0x08 ∷ []
 -- the header's features in rising order of tags
 abbrev pub header_value : Face → List ℕ
 header_value face =
-    feature 0x80 face.header_version ++ (feature 0x81 face.biometric_type ++ (feature 0x82 face.biometric_subtype ++
-    (feature 0x83 face.creation_date ++ (feature 0x85 face.validity_period ++ (feature 0x86 face.creator ++
+    feature 0x80 face.header_version ++ (feature 0x81 face.biometric_type ++
+    (feature 0x82 face.biometric_subtype ++ (feature 0x83 face.creation_date ++
+    (feature 0x85 face.validity_period ++ (feature 0x86 face.creator ++
     (object 0x87 owner ++ object 0x88 format))))))
 
 -- an entry's value: A1, the header, and 5F2E, the face block
@@ -83,5 +83,8 @@ pub record LawfulFaces (faces : List Face) : Type 0 where
   pub each : EachLawful faces
 
 -- DG2: the group of its face entries
+abbrev pub faces_form : Form (List Face)
+faces_form = record { file = 2; lawful = LawfulFaces; value = faces_value }
+
 abbrev pub WritesFaces : List Face → List ℕ → Type 0
-WritesFaces = Writes (template_tag_of 2) LawfulFaces faces_value
+WritesFaces = Writes faces_form

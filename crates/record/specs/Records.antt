@@ -1,18 +1,21 @@
--- A record: what a hall means to load on a card. Writing it gives the card's files.
-use Rattle.std.specs.Prelude.{◌≡◌, ℕ, ◌<◌, ◌≤◌, Bool, true, false, cond, not, ◌&&◌, List, Some, None, Option, ◌==◌, nat_le}
+-- A record: what is meant to be loaded on a card. Writing it gives the card's files.
+use Rattle.std.specs.Prelude.{◌≡◌, ℕ, ◌≤◌, Bool, true, false, ◌&&◌, List, Some, None, Option}
 use Rattle.std.specs.Option.{option_map}
-use Rattle.card.specs.Cards.{Files, Short, template_tag_of}
-use Rattle.card.specs.Profiles.{Lawful, declares}
-use Rattle.object.specs.Trees.{Trees, writes, AllLawful}
-use Rattle.record.specs.Parts.{object, Order, common_value, security_value}
+use Rattle.card.specs.Cards.{Files, Short}
+use Rattle.card.specs.Profiles.{kind_of, declared_set, declares}
+use Rattle.card.specs.Purposes.{purpose_of}
+use Rattle.card.specs.declared.files.Purpose.{Purpose}
+use Rattle.card.specs.declared.files.Purpose.TheVariants as purpose
+use Rattle.card.specs.declared.profile.Profile.{Profile}
+use Rattle.object.specs.Trees.{Trees, writes, LawfulTrees}
+use Rattle.record.specs.Parts.{template, Order, common_value, security_value}
 use Rattle.record.specs.Zones.{Fields, LawfulFields}
 use Rattle.record.specs.ZoneWriting.{zone_value}
 use Rattle.record.specs.Faces.{Face, LawfulFaces, faces_value}
 
 pub record Record : Type 0 where
-  -- the profile: the kind of zone and the declared set
-  pub kind : ℕ
-  pub declared : ℕ
+  -- the kind of zone and the declared set
+  pub profile : Profile
   -- EF.COM: the tags of the declared groups in some order
   pub tags : List ℕ
   -- DG1: the fields of the zone, without check digits
@@ -26,42 +29,49 @@ pub record Record : Type 0 where
   -- EF.SOD: the trees in its object 30
   pub security : Trees
 
--- the data groups whose part is a list of trees: DG3 to DG16 other than DG13
+-- whether a file of this purpose is written from trees alone
+abbrev pub for_trees : Purpose → Bool
+for_trees purpose.Common = false
+for_trees purpose.Zone = false
+for_trees purpose.Faces = false
+for_trees purpose.Trees = true
+for_trees purpose.Free = false
+for_trees purpose.Security = false
+
+-- the files whose part is a row of trees: DG3 to DG16 other than DG13, and numbers above 17, which no profile declares
 abbrev pub tree_group : ℕ → Bool
-tree_group file = nat_le 3 file && (nat_le file 16 && not (file == 13))
+tree_group file = for_trees (purpose_of file)
 
 -- a part is given exactly if it is wanted, and then it is lawful
 abbrev pub Given : {Part : Type 0} → Bool → (Part → Type 0) → Option Part → Type 0
-Given true Lawful-part None = ⊥
-Given true Lawful-part (Some part) = Lawful-part part
-Given false Lawful-part None = Unit {0}
-Given false Lawful-part (Some part) = ⊥
+Given true Lawful None = ⊥
+Given true Lawful (Some part) = Lawful part
+Given false Lawful None = Unit {0}
+Given false Lawful (Some part) = ⊥
 
--- a file as it is written: its template with a value
-abbrev pub template : ℕ → List ℕ → List ℕ
-template file value = object (template_tag_of file) value
+-- the value of the template that a record writes into a file of this purpose and number, if it writes the file
+abbrev pub value_for : Purpose → Record → ℕ → Option (List ℕ)
+value_for purpose.Common r file = Some (common_value r.tags)
+value_for purpose.Zone r file = Some (zone_value (kind_of r.profile) r.zone)
+value_for purpose.Faces r file = Some (faces_value r.faces)
+value_for purpose.Trees r file = option_map writes (r.groups file)
+value_for purpose.Free r file = r.free
+value_for purpose.Security r file = Some (security_value r.security)
 
 -- the files that a record writes
 abbrev pub written : Record → Files
-written r file =
-    cond (file == 0) (Some (template 0 (common_value r.tags)))
-    (cond (file == 1) (Some (template 1 (zone_value r.kind r.zone)))
-    (cond (file == 2) (Some (template 2 (faces_value r.faces)))
-    (cond (file == 17) (Some (template 17 (security_value r.security)))
-    (cond (file == 13) (option_map (template 13) r.free)
-    (option_map (λ trees. template file (writes trees)) (r.groups file))))))
+written r file = option_map (template file) (value_for (purpose_of file) r file)
 
--- A record that exists: a lawful profile, lawful parts for exactly what it declares, and no file that is too long. A
--- group's trees start on level 2, those in EF.SOD's object 30 on level 3, and none stands below level 16.
+-- A record that exists: lawful parts for exactly what its profile declares, and no file that is too long. A group's trees
+-- start on level 2, those in EF.SOD's object 30 on level 3, and none stands below level 16.
 pub record LawfulRecord (r : Record) : Type 0 where
-  pub profile : Lawful r.kind r.declared
-  pub sixteen_bits : r.declared < 65536
-  pub tags : Order r.declared r.tags
-  pub zone : LawfulFields r.kind r.zone
+  pub tags : Order (declared_set r.profile) r.tags
+  pub zone : LawfulFields (kind_of r.profile) r.zone
   pub faces : LawfulFaces r.faces
-  pub groups : (file : ℕ) → Given (tree_group file && declares r.declared file) (λ trees. AllLawful trees 15) (r.groups file)
-  pub free : Given (declares r.declared 13) (λ _. Unit {0}) r.free
-  pub security : AllLawful r.security 14
+  pub groups : (file : ℕ) → Given (tree_group file && declares r.profile file)
+      (λ trees. LawfulTrees trees 15) (r.groups file)
+  pub free : Given (declares r.profile 13) (λ _. Unit {0}) r.free
+  pub security : LawfulTrees r.security 14
   pub short : (file : ℕ) → file ≤ 17 → Short (written r file)
 
 -- a record writes a card's files: writing gives exactly these, with the same ones absent
@@ -70,8 +80,7 @@ pub record WritesCard (r : Record) (files : Files) : Type 0 where
   pub exactly : (file : ℕ) → file ≤ 17 → written r file ≡ files file
 
 -- a record of this profile writes the files
-pub record WrittenUnder (kind declared : ℕ) (files : Files) : Type 0 where
+pub record WrittenUnder (profile : Profile) (files : Files) : Type 0 where
   pub the_record : Record
-  pub its_kind : the_record.kind ≡ kind
-  pub its_set : the_record.declared ≡ declared
+  pub its_profile : the_record.profile ≡ profile
   pub writes : WritesCard the_record files

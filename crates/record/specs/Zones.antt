@@ -1,10 +1,12 @@
 -- What a record says of the machine readable zone: its fields, without any check digit, and the rules on them.
-use Rattle.std.specs.Prelude.{◌≡◌, ℕ, ◌+◌, ◌-◌, ◌<◌, cond, List, length, Some, None, Option, ◌==◌, slice_index, slice_index_or}
+use Rattle.std.specs.Prelude.{◌≡◌, ℕ, ◌+◌, ◌-◌, List, length, Some, None, Option, slice_index, slice_index_or}
+use Rattle.card.specs.declared.profile.Kind.{Kind}
+use Rattle.card.specs.declared.profile.Kind.TheVariants.{Td1, Td2, Td3}
 use Rattle.text.specs.Characters.{filler}
 use Rattle.text.specs.Dates.{Date}
-use Rattle.text.specs.Names.{Name}
+use Rattle.text.specs.Names.{Name, AllFillers}
 use Rattle.zone.specs.Fields.{ZoneCharacters, Code, State, Sex}
-use Rattle.zone.specs.Layouts.{span, layout_of}
+use Rattle.zone.specs.Layouts.{span, places_of}
 use Rattle.zone.specs.declared.layout.Span.{Span}
 
 -- the fields of a zone
@@ -54,26 +56,33 @@ characters_of fields expiry = fields.expiry
 characters_of fields first_optional = fields.first_optional
 characters_of fields second_optional = fields.second_optional
 
--- where a field stands in the zone of a kind; TD2 and TD3 have one optional field, so that their second is empty
-abbrev pub field_span : ℕ → Field → Span
-field_span kind code = (layout_of kind).code
-field_span kind issuer = (layout_of kind).issuer
-field_span kind name = (layout_of kind).name
-field_span kind number = (layout_of kind).number
-field_span kind nationality = (layout_of kind).nationality
-field_span kind birth = (layout_of kind).birth
-field_span kind sex = span (layout_of kind).sex ((layout_of kind).sex + 1)
-field_span kind expiry = (layout_of kind).expiry
-field_span kind first_optional = cond (kind == 1) (span 15 30) (cond (kind == 2) (span 64 71) (span 72 86))
-field_span kind second_optional = cond (kind == 1) (span 48 59) (cond (kind == 2) (span 71 71) (span 87 87))
+-- where the optional fields stand; TD2 and TD3 have one, so that their second is empty
+abbrev pub first_optional_span : Kind → Span
+first_optional_span Td1 = span 15 30
+first_optional_span Td2 = span 64 71
+first_optional_span Td3 = span 72 86
+
+abbrev pub second_optional_span : Kind → Span
+second_optional_span Td1 = span 48 59
+second_optional_span Td2 = span 71 71
+second_optional_span Td3 = span 87 87
+
+-- where a field stands in the zone of a kind
+abbrev pub field_span : Kind → Field → Span
+field_span kind code = (places_of kind).code
+field_span kind issuer = (places_of kind).issuer
+field_span kind name = (places_of kind).name
+field_span kind number = (places_of kind).number
+field_span kind nationality = (places_of kind).nationality
+field_span kind birth = (places_of kind).birth
+field_span kind sex = span (places_of kind).sex ((places_of kind).sex + 1)
+field_span kind expiry = (places_of kind).expiry
+field_span kind first_optional = first_optional_span kind
+field_span kind second_optional = second_optional_span kind
 
 -- how many characters it has there
-abbrev pub width : ℕ → Field → ℕ
+abbrev pub width : Kind → Field → ℕ
 width kind field = (field_span kind field).end - (field_span kind field).start
-
--- each character is the filler
-abbrev pub AllFillers : List ℕ → Type 0
-AllFillers characters = (k : ℕ) → k < length characters → slice_index characters k ≡ filler
 
 -- what may be said of the optional field's own digit: a filler or 0 if there is such a digit and the field is all
 -- fillers, and nothing otherwise
@@ -84,10 +93,10 @@ RightlyTold (Some s) a_filler field = AllFillers field
 RightlyTold (Some s) a_zero field = AllFillers field
 
 -- The rules on the fields of a kind. None of them is on check digits, which writing computes.
-pub record LawfulFields (kind : ℕ) (fields : Fields) : Type 0 where
+pub record LawfulFields (kind : Kind) (fields : Fields) : Type 0 where
   pub widths : (field : Field) → length (characters_of fields field) ≡ width kind field
   pub characters : (field : Field) → ZoneCharacters (characters_of fields field)
-  pub code : Code (layout_of kind).passport fields.code
+  pub code : Code (places_of kind).passport fields.code
   pub issuer : State fields.issuer
   pub name : Name fields.name
   pub number : slice_index_or fields.number 0 0 ≡ filler → ⊥
@@ -95,4 +104,4 @@ pub record LawfulFields (kind : ℕ) (fields : Fields) : Type 0 where
   pub birth : Date fields.birth
   pub sex : Sex (slice_index fields.sex 0)
   pub expiry : Date fields.expiry
-  pub unused_digit : RightlyTold (layout_of kind).optional fields.unused_digit fields.first_optional
+  pub unused_digit : RightlyTold (places_of kind).optional fields.unused_digit fields.first_optional

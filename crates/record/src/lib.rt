@@ -1,4 +1,4 @@
-//! Records: what a hall means to load, the files that it writes, and what these have to do with the lines of a sheet.
+//! Records: what is meant to be loaded on a card, the files that it writes, and what these have to do with the lines of a sheet.
 //! The laws stand in `specs/`; nothing here is called by a program.
 #![tactic(auto)]
 
@@ -28,7 +28,7 @@ fn card_laws() -> u8
     0
 }
 
-/// For each layout there is a record, and it writes the card that stands there byte by byte.
+/// Six records, at least one for each layout, write the cards that stand there byte by byte.
 fn sample_records() -> u8
     ensures { SampleRecords }
 {

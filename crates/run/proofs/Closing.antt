@@ -49,20 +49,20 @@ accepted files profile m m' (asking case file answer ∷ events) summary l a = a
 accepted files profile m m' (closing None ∷ events) summary l a = accepted files profile l.0 m' events summary l.1.1 a
 accepted files profile m m' (closing (Some (Err refusal)) ∷ events) summary l a = accepted files profile l.0 m' events summary l.1.1 a
 accepted files profile m m' (closing (Some (Ok answer)) ∷ events) summary l a = ⊎_elim
-    (λ (e : answer ≡ summary). subst (λ s. Counted files profile s.tally × (s.clean ≡ eqb s.tally.fail 0)) e (l.1.0.2, l.1.0.3))
+    (λ (e : answer ≡ summary). subst (λ s. Counted files profile s.tally × (s.clean ≡ eqb s.tally.fail 0)) e (l.1.0.counted, l.1.0.clean))
     (λ b. accepted files profile l.0 m' events summary l.1.1 b) a
 
 pub means : (files : Files) (profile : Profile) (summary : Summary) → AllShort files → Counted files profile summary.tally → summary.clean ≡ eqb summary.tally.fail 0
     → CloseMeans files profile summary
 means files profile summary short c says =
-    let law = laws.clean_exactly_when_written profile.kind profile.declared profile.lawful profile.sixteen_bits files short c.lines c.given in
+    let law = laws.clean_exactly_when_written profile files short c.lines c.given in
     record {
       clean_exactly_when_written = (λ t. law.0 (none_fails files profile summary c says t), λ u. says_clean files profile summary c says (law.1 u));
       counts_of_the_cases = c;
       written_by_one_record_only = λ r other. laws.written_by_one_record_only r other files;
       changed_digit_never_closes_clean = λ r changed w d other lost lost' later h answer b t.
           let q = accepted changed other _ h.last later answer h.leads b in
-          laws.changed_digit_is_never_clean r files changed w d other.kind other.declared other.lawful q.0.lines q.0.given (none_fails changed other answer q.0 q.1 t);
+          laws.changed_digit_is_never_clean r files changed w d other q.0.lines q.0.given (none_fails changed other answer q.0 q.1 t);
     }
 
 pub close_means : (files : Files) (profile : Profile) (m m' : Moment) (events : List Event) (summary : Summary) → AllShort files

@@ -1,4 +1,4 @@
 mod Reading
 mod Keeping
-mod Turns
+mod TurnLemmas
 mod Closing

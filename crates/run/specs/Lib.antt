@@ -1,6 +1,6 @@
 pub mod Numbers
 pub mod Calls
 pub mod Histories
-pub mod Keeping
+pub mod Holding
 pub mod Steps
 pub mod Promise

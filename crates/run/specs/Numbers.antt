@@ -15,7 +15,7 @@ of_judge (Unread refusal) = of_whole refusal
 
 -- an ask
 abbrev pub of_ask : AskRefusal → Refusal
-of_ask NoLine = bare 2
+of_ask (NoLine case file) = bare 2
 
 -- a close; 4 comes with the lowest file that was not judged
 abbrev pub of_close : CloseRefusal → Refusal

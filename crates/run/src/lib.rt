@@ -1,5 +1,5 @@
 //! The run: judge, ask and close over any source of card files, under one profile.
-//! Nothing here looks at a byte's meaning; the lines of a file come from `verdict`.
+//! Nothing here looks at a byte's meaning; the lines of a file come from `cases`.
 #![tactic(auto)]
 
 pub mod promise;

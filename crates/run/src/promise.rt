@@ -1,7 +1,7 @@
 //! A list of calls, made in order on a new run that nothing else handles.
 ghost use Rattle.std.specs.Prelude.{◌≡◌};
-ghost use Rattle.run.specs.Histories.{Moves, Handles};
-ghost use Rattle.run.specs.Keeping.{moment_of, Kept};
+ghost use Rattle.run.specs.Histories.{basis, Turns};
+ghost use Rattle.run.specs.Holding.{profile_of, card_of, basis_of, scene_of, Kept};
 ghost use Rattle.run.specs.Promise.{Promise};
 ghost use Rattle.run.specs.Steps.{event, SameCall};
 
@@ -34,7 +34,8 @@ pub enum Step {
 /// Makes the calls in order on a new run over the source, puts each answer into its step, and hands the source back.
 pub fn perform<S: Source>(source: S, profile: Profile, steps: &mut [Step]) -> S
     ensures files { S.files result ≡ S.files source }
-    ensures promise { Promise S.lost S.outcomes (S.files source) profile source result steps.old steps.new }
+    ensures promise { let on = basis S.lost S.outcomes (S.files source) profile in
+        Promise on source result steps.old steps.new }
 {
     let mut run = Run::open(source, profile);
     for step in steps.iter_mut() {
@@ -46,13 +47,13 @@ pub fn perform<S: Source>(source: S, profile: Profile, steps: &mut [Step]) -> S
 // `Kept` stands in clauses and not in the type: a ghost field holds a proposition, and the lines that `Kept` tells of are data.
 /// Makes one call.
 fn make<S: Source>(run: &mut Run<S>, step: &mut Step)
-    requires { Kept (S.files run.old.source) run.old.profile run.old.sheet }
-    ensures files { S.files run.new.source ≡ S.files run.old.source }
-    ensures profile { run.new.profile ≡ run.old.profile }
-    ensures kept { Kept (S.files run.old.source) run.old.profile run.new.sheet }
+    requires { Kept S.files run.old }
+    ensures files { card_of S.files run.new ≡ card_of S.files run.old }
+    ensures profile { profile_of run.new ≡ profile_of run.old }
+    ensures kept { Kept S.files run.new }
     ensures same { SameCall step.old step.new }
-    ensures moves { Moves (S.files run.old.source) run.old.profile (moment_of run.old.sheet run.old.closed (S.lost run.old.source)) (event step.old step.new) (moment_of run.new.sheet run.new.closed (S.lost run.new.source)) }
-    ensures handles { Handles S.outcomes (moment_of run.old.sheet run.old.closed (S.lost run.old.source)) (event step.old step.new) run.old.source run.new.source }
+    ensures turns { Turns (basis_of S.lost S.outcomes S.files run.old)
+        (scene_of S.lost run.old) (event step.old step.new) (scene_of S.lost run.new) }
 {
     match step {
         Step::Judge {

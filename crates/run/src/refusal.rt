@@ -4,16 +4,18 @@ ghost use Rattle.run.specs.Numbers.{of_judge, of_ask, of_close};
 ghost use Rattle.run.specs.declared.refusal.JudgeRefusal.TheVariants.{Unread};
 
 use card::Numbered;
+use card::number::{CLOSED, NOT_THERE, UNJUDGED};
 use source::WholeRefusal;
-use std::error::Error;
-use std::fmt;
+use thiserror::Error;
 
 /// Why a judge is refused.
-#[derive(Clone, Copy, Debug, PartialEq, Eq)]
+#[derive(Clone, Copy, Debug, PartialEq, Eq, Error)]
 pub enum JudgeRefusal {
     /// A close was accepted.
+    #[error("refusal {n}: a close was accepted before", n = CLOSED)]
     Closed,
     /// The file is not read whole.
+    #[error(transparent)]
     Unread(WholeRefusal),
 }
 
@@ -30,28 +32,18 @@ impl Numbered for JudgeRefusal {
 
     fn number(self) -> u8 {
         match self {
-            JudgeRefusal::Closed => 5,
+            JudgeRefusal::Closed => CLOSED,
             JudgeRefusal::Unread(refusal) => refusal.number(),
         }
     }
 }
 
-impl fmt::Display for JudgeRefusal {
-    fn fmt<W: fmt::Write>(&self, f: &mut fmt::Formatter<W>) -> fmt::Result {
-        match self {
-            JudgeRefusal::Closed => write!(f, "refusal {}", self.number()),
-            JudgeRefusal::Unread(refusal) => write!(f, "{refusal}"),
-        }
-    }
-}
-
-impl Error for JudgeRefusal {}
-
 /// Why an ask is refused.
-#[derive(Clone, Copy, Debug, PartialEq, Eq)]
+#[derive(Clone, Copy, Debug, PartialEq, Eq, Error)]
 pub enum AskRefusal {
     /// There is no line of this case for this file.
-    NoLine,
+    #[error("refusal {n}: there is no line of case {case} for file {file}", n = NOT_THERE)]
+    NoLine { case: u8, file: u8 },
 }
 
 impl Numbered for AskRefusal {
@@ -59,25 +51,19 @@ impl Numbered for AskRefusal {
 
     fn number(self) -> u8 {
         match self {
-            AskRefusal::NoLine => 2,
+            AskRefusal::NoLine { .. } => NOT_THERE,
         }
     }
 }
 
-impl fmt::Display for AskRefusal {
-    fn fmt<W: fmt::Write>(&self, f: &mut fmt::Formatter<W>) -> fmt::Result {
-        write!(f, "refusal {}", self.number())
-    }
-}
-
-impl Error for AskRefusal {}
-
 /// Why a close is refused.
-#[derive(Clone, Copy, Debug, PartialEq, Eq)]
+#[derive(Clone, Copy, Debug, PartialEq, Eq, Error)]
 pub enum CloseRefusal {
     /// A close was accepted.
+    #[error("refusal {n}: a close was accepted before", n = CLOSED)]
     Closed,
     /// A file was not judged; this is the lowest.
+    #[error("refusal {n}: file {file} is not judged", n = UNJUDGED)]
     Unjudged { file: u8 },
 }
 
@@ -86,20 +72,8 @@ impl Numbered for CloseRefusal {
 
     fn number(self) -> u8 {
         match self {
-            CloseRefusal::Closed => 5,
-            CloseRefusal::Unjudged { .. } => 4,
+            CloseRefusal::Closed => CLOSED,
+            CloseRefusal::Unjudged { .. } => UNJUDGED,
         }
     }
 }
-
-impl fmt::Display for CloseRefusal {
-    fn fmt<W: fmt::Write>(&self, f: &mut fmt::Formatter<W>) -> fmt::Result {
-        write!(f, "refusal {}", self.number())?;
-        match *self {
-            CloseRefusal::Unjudged { file } => write!(f, ", file {file} is not judged"),
-            CloseRefusal::Closed => Ok(()),
-        }
-    }
-}
-
-impl Error for CloseRefusal {}

@@ -1,18 +1,14 @@
 //! A run over one source and one profile.
 ghost use Rattle.std.specs.Prelude.{◌≡◌, true, false, IfOk};
-ghost use Rattle.sheet.specs.Sheets.{Blank};
 ghost use Rattle.source.specs.Whole.{Ready};
-ghost use Rattle.run.specs.Histories.{new_run, Judging, Asking, Closing};
-ghost use Rattle.run.specs.Promise.{CloseMeans};
-ghost use Rattle.run.specs.Keeping.{moment_of, Kept};
-ghost use Rattle.run.specs.Calls.{Judges, JudgeReads, Asks, Closes};
+ghost use Rattle.sheet.specs.Sheets.{Blank};
 
 use crate::refusal::{AskRefusal, CloseRefusal, JudgeRefusal};
 use card::{Line, Profile};
+use cases::write_verdict;
 use sheet::{Sheet, Tally};
 use source::{Source, read_whole};
 use std::fmt;
-use verdict::write_verdict;
 
 /// What an accepted close says.
 #[derive(Clone, Copy, Debug, PartialEq, Eq)]
@@ -40,12 +36,19 @@ pub struct Run<S> {
 }
 
 impl<S: Source> Run<S> {
+    ghost use Rattle.run.specs.Calls.{judge_call, ask_call, JudgeReads};
+    ghost use Rattle.run.specs.Histories.{new_run, Judging, Asking, Closing};
+    ghost use Rattle.run.specs.Holding.{source_of, profile_of, sheet_of, is_closed, card_of, moment_of};
+    ghost use Rattle.run.specs.Holding.{Kept, JudgesOn, Asks, Closes};
+    ghost use Rattle.run.specs.Promise.{CloseMeans};
+
     /// A new run: every line open, no file judged, no close accepted.
     pub fn open(source: S, profile: Profile) -> Run<S>
-        ensures parts { (result.source ≡ source) × (result.profile ≡ profile) × (result.closed ≡ false) }
-        ensures blank { Blank result.sheet }
-        ensures kept { Kept (S.files source) profile result.sheet }
-        ensures new { moment_of result.sheet result.closed (S.lost result.source) ≡ new_run (S.lost source) }
+        ensures source { source_of result ≡ source }
+        ensures profile { profile_of result ≡ profile }
+        ensures blank { Blank (sheet_of result) }
+        ensures kept { Kept S.files result }
+        ensures new { moment_of S.lost result ≡ new_run (S.lost source) }
     {
         Run {
             source,
@@ -57,13 +60,19 @@ impl<S: Source> Run<S> {
 
     /// Reads a file whole to the buffer's start, and sets all its lines. Judging a file again is allowed.
     pub fn judge(&mut self, file: u8, buffer: &mut [u8]) -> Result<(), JudgeRefusal>
-        ensures files { S.files self.new.source ≡ S.files self.old.source }
-        ensures lasts { S.lost self.old.source ≡ true → S.lost self.new.source ≡ true }
-        ensures same { (self.new.profile ≡ self.old.profile) × (self.new.closed ≡ self.old.closed) }
-        ensures judges { Judges self.old.profile.kind self.old.profile.declared (S.files self.old.source file) self.old.closed (S.lost self.old.source) (S.lost self.new.source) file buffer.old buffer.new self.old.sheet self.new.sheet result }
-        ensures reads { self.old.closed ≡ false → Ready file buffer.old → JudgeReads S.outcomes file self.old.source result self.new.source }
-        ensures lawful { Kept (S.files self.old.source) self.old.profile self.old.sheet → Kept (S.files self.old.source) self.old.profile self.new.sheet × Judging (S.files self.old.source) (moment_of self.old.sheet self.old.closed (S.lost self.old.source)) file buffer.old buffer.new result (moment_of self.new.sheet self.new.closed (S.lost self.new.source)) }
-        ensures still { (self.old.closed ≡ false → Ready file buffer.old → ⊥) → self.new.source ≡ self.old.source }
+        ensures files { card_of S.files self.new ≡ card_of S.files self.old }
+        ensures lasts { S.lost (source_of self.old) ≡ true → S.lost (source_of self.new) ≡ true }
+        ensures same { (profile_of self.new ≡ profile_of self.old)
+            × (is_closed self.new ≡ is_closed self.old) }
+        ensures judging { Judging (card_of S.files self.old) (moment_of S.lost self.old)
+            (judge_call file buffer.old buffer.new result) (moment_of S.lost self.new) }
+        ensures sheet { JudgesOn S.files self.old
+            (judge_call file buffer.old buffer.new result) self.new }
+        ensures kept { Kept S.files self.old → Kept S.files self.new }
+        ensures reads { is_closed self.old ≡ false → Ready file buffer.old
+            → JudgeReads S.outcomes file (source_of self.old) result (source_of self.new) }
+        ensures still { (is_closed self.old ≡ false → Ready file buffer.old → ⊥)
+            → source_of self.new ≡ source_of self.old }
     {
         if self.closed {
             return Err(JudgeRefusal::Closed);
@@ -76,18 +85,27 @@ impl<S: Source> Run<S> {
 
     /// The line of a case and a file, also after a close.
     pub fn ask(&self, case: u8, file: u8) -> Result<Line, AskRefusal>
-        ensures asks { Asks self.now.sheet case file result }
-        ensures lawful { Kept (S.files self.now.source) self.now.profile self.now.sheet → Asking (S.files self.now.source) self.now.profile (moment_of self.now.sheet self.now.closed (S.lost self.now.source)) case file result }
+        ensures asks { Asks (sheet_of self.now) (ask_call case file result) }
+        ensures lawful { Kept S.files self.now
+            → Asking (card_of S.files self.now) (profile_of self.now)
+            (moment_of S.lost self.now) (ask_call case file result) }
     {
-        self.sheet.line(case, file).ok_or(AskRefusal::NoLine)
+        self.sheet
+            .line(case, file)
+            .ok_or(AskRefusal::NoLine { case, file })
     }
 
     /// Closes the run once every file was judged.
     pub fn close(&mut self) -> Result<Summary, CloseRefusal>
-        ensures same { (self.new.source ≡ self.old.source) × (self.new.profile ≡ self.old.profile) × (self.new.sheet ≡ self.old.sheet) }
-        ensures closes { Closes self.old.sheet self.old.closed self.new.closed result }
-        ensures lawful { Kept (S.files self.old.source) self.old.profile self.old.sheet → Closing (S.files self.old.source) self.old.profile (moment_of self.old.sheet self.old.closed (S.lost self.old.source)) result (moment_of self.new.sheet self.new.closed (S.lost self.new.source)) }
-        ensures means { Kept (S.files self.old.source) self.old.profile self.old.sheet → IfOk result (CloseMeans (S.files self.old.source) self.old.profile) }
+        ensures source { source_of self.new ≡ source_of self.old }
+        ensures profile { profile_of self.new ≡ profile_of self.old }
+        ensures sheet { sheet_of self.new ≡ sheet_of self.old }
+        ensures closes { Closes self.old result self.new }
+        ensures lawful { Kept S.files self.old
+            → Closing (card_of S.files self.old) (profile_of self.old)
+            (moment_of S.lost self.old) result (moment_of S.lost self.new) }
+        ensures means { Kept S.files self.old
+            → IfOk result (CloseMeans (card_of S.files self.old) (profile_of self.old)) }
     {
         if self.closed {
             return Err(CloseRefusal::Closed);
@@ -105,7 +123,7 @@ impl<S: Source> Run<S> {
 
     /// Ends the run and hands its source back.
     pub fn into_source(self) -> S
-        ensures { result ≡ self.source }
+        ensures { result ≡ source_of self }
     {
         let Run { source, .. } = self;
         source

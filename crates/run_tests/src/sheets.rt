@@ -28,7 +28,7 @@ fn same_lines<S: Source, T: Source>(
     other: &Run<T>,
 ) -> Result<(), Fail> {
     for file in 0..=18u8 {
-        for case in 0..=25u8 {
+        for case in 0..=40u8 {
             match (one.ask(case, file), other.ask(case, file)) {
                 (Ok(line), Ok(same)) => assert_eq!(rt; line, same),
                 (Err(_), Err(_)) => {}

@@ -136,7 +136,7 @@ trailing_none zero n h e = omega arith
 trailing_none (suc k) n h e = none_first n (count_trailing_zeros k (n / 2)) k (λ t. trailing_none k (n / 2) (shr_lt k 1 (subst (λ z. n < 2 ^ z) (sym (add-one k)) h)) t) (n % 2) refl e
 
 -- the lowest of the missing
-pub lowest : (set : FileSet) → (bit_and (bit_xor set.bits 262143) 262143 ≡ 0 → ⊥) → LowestMissing set (count_trailing_zeros 32 (bit_and (bit_xor set.bits 262143) 262143))
+pub lowest : (set : FileSet) → (bit_and (bit_xor set.bits 262143) 262143 ≡ 0 → ⊥) → LowestMissing (has set.bits) (count_trailing_zeros 32 (bit_and (bit_xor set.bits 262143) 262143))
 lowest set some =
     let a = set.bits in
     let n = bit_and (bit_xor a 262143) 262143 in

@@ -1,44 +1,47 @@
 -- The list of all lines has every line, and no others.
-use Rattle.std.proofs.Common.{◌≡◌, ℕ, zero, suc, ◌+◌, ◌<◌, ◌≤◌, Bool, true, false, ◌&&◌, ◌||◌, eqb, leb, ◌⊎◌, List, [], ◌∷◌, length, get_or, sum_by, sym, refl, ap, ◌∙◌, inl, inr, ⊎_elim, arith, rules}
+use Rattle.std.proofs.Common.{◌≡◌, ℕ, zero, suc, ◌+◌, ◌<◌, ◌≤◌, Bool, true, false, ◌&&◌, ◌||◌, eqb, leb, ◌⊎◌, List, [], ◌∷◌, length, get_or, map, sum_by, Some, sym, refl, ap, ◌∙◌, subst, inl, inr, ⊎_elim, arith, rules}
+use Rattle.std.specs.List.{slice_get}
 use Rattle.std.proofs.lemmas.List.Sums.{sum_by-cons, get_or-le-sum_by}
 use Rattle.std.proofs.lemmas.Bool.Decides.{nat_tests}
-use Rattle.card.specs.Sheets.{Among, HasLine, all_lines, CardLines, count}
+use Rattle.card.specs.Cases.{own_rows, InRow, InRows, HasLine, all_lines}
+use Rattle.card.specs.Sheets.{CardLines, count}
+use Rattle.card.specs.declared.cases.CaseRow.{CaseRow}
 use Rattle.card.specs.declared.line.Line.{Line}
-use Rattle.sheet.specs.Tables.{place}
+use Rattle.sheet.specs.Tables.{is_in_row, place}
 use Rattle.sheet.proofs.Places.{within, same_place}
 use Rattle.sheet.proofs.Counting.{in_order, both}
 
 -- whether there is such a line
-abbrev has_line : ℕ → ℕ → Bool
-has_line c f =
-    (leb 1 c && leb c 3 && leb f 17)
-    || ((leb 4 c && leb c 8 && eqb f 0) || ((leb 9 c && leb c 20 && eqb f 1) || ((leb 21 c && leb c 23 && eqb f 2) || (leb 24 c && leb c 24 && eqb f 17))))
+abbrev is_in_rows : List CaseRow → ℕ → ℕ → Bool
+is_in_rows [] c f = false
+is_in_rows (row ∷ rows) c f = is_in_row row c f || is_in_rows rows c f
 
-either : (a b : Bool) → (a || b) ≡ true → (a ≡ true) ⊎ (b ≡ true)
+abbrev pub has_line : ℕ → ℕ → Bool
+has_line c f = (leb 1 c && leb c 3 && leb f 17) || is_in_rows own_rows c f
+
+pub either : (a b : Bool) → (a || b) ≡ true → (a ≡ true) ⊎ (b ≡ true)
 either true b e = inl refl
 either false b e = inr e
 
-own : (first last file c f : ℕ) → (leb first c && leb c last && eqb f file) ≡ true → Among first last c × (f ≡ file)
-own first last file c f t = ((grind (arith, nat_tests), grind (arith, nat_tests)), grind (arith, nat_tests))
+row_there : (row : CaseRow) (c f : ℕ) → is_in_row row c f ≡ true → InRow row c f
+row_there row c f t = (grind (arith, nat_tests), grind (arith, nat_tests), grind (arith, nat_tests))
+
+rows_there : (rows : List CaseRow) (c f : ℕ) → is_in_rows rows c f ≡ true → InRows rows c f
+rows_there [] c f t = let z : ◌≡◌ {A = ℕ} 0 1 = cc in absurd (omega arith)
+rows_there (row ∷ rows) c f t = ⊎_elim (λ a. inl (row_there row c f a)) (λ b. inr (rows_there rows c f b)) (either (is_in_row row c f) (is_in_rows rows c f) t)
 
 there : (c f : ℕ) → has_line c f ≡ true → HasLine c f
 there c f t = ⊎_elim
-    (λ (a : (leb 1 c && leb c 3 && leb f 17) ≡ true). inl ((grind (arith, nat_tests), grind (arith, nat_tests)), grind (arith, nat_tests)))
-    (λ b. inr (⊎_elim
-    (λ a. inl (own 4 8 0 c f a))
-    (λ b. inr (⊎_elim
-    (λ a. inl (own 9 20 1 c f a))
-    (λ b. inr (⊎_elim (λ a. inl (own 21 23 2 c f a)) (λ a. inr (own 24 24 17 c f a)) (either (leb 21 c && leb c 23 && eqb f 2) _ b)))
-    (either (leb 9 c && leb c 20 && eqb f 1) _ b)))
-    (either (leb 4 c && leb c 8 && eqb f 0) _ b)))
-    (either (leb 1 c && leb c 3 && leb f 17) _ t)
+    (λ (a : (leb 1 c && leb c 3 && leb f 17) ≡ true). inl (grind (arith, nat_tests), grind (arith, nat_tests), grind (arith, nat_tests)))
+    (λ b. inr (rows_there own_rows c f b))
+    (either (leb 1 c && leb c 3 && leb f 17) (is_in_rows own_rows c f) t)
 
-abbrev all_have : List (ℕ × ℕ) → Bool
+abbrev pub all_have : List (ℕ × ℕ) → Bool
 all_have [] = true
 all_have (at ∷ rest) = has_line at.0 at.1 && all_have rest
 
 -- what the two tests say at each place of a list
-at_place : (k : ℕ) (lines : List (ℕ × ℕ)) → in_order k lines ≡ true → all_have lines ≡ true → (i : ℕ) → i < length lines
+pub at_place : (k : ℕ) (lines : List (ℕ × ℕ)) → in_order k lines ≡ true → all_have lines ≡ true → (i : ℕ) → i < length lines
     → (place (get_or lines i (0, 0)).0 (get_or lines i (0, 0)).1 ≡ k + i) × HasLine (get_or lines i (0, 0)).0 (get_or lines i (0, 0)).1
 at_place k [] t u i h = absurd (omega arith)
 at_place k (at ∷ rest) t u zero h =
@@ -72,9 +75,28 @@ sum_same g h (at ∷ rest) t e =
     sum_by-cons g at rest ∙ ap (λ n. n + sum_by g rest) (e at.0 at.1 (there at.0 at.1 w.0))
     ∙ ap (λ n. h at + n) (sum_same g h rest w.1 e) ∙ sym (sum_by-cons h at rest)
 
+-- what is made of each line is the same where it is the same of each line that there is
+map_same : {X : Type 0} → (g h : ℕ × ℕ → X) (lines : List (ℕ × ℕ)) → all_have lines ≡ true → ((c f : ℕ) → HasLine c f → g (c, f) ≡ h (c, f)) → map g lines ≡ map h lines
+map_same g h [] t e = refl
+map_same g h (at ∷ rest) t e =
+    let w = both (has_line at.0 at.1) (all_have rest) t in
+    ap (λ x. x ∷ map g rest) (e at.0 at.1 (there at.0 at.1 w.0)) ∙ ap (λ xs. h at ∷ xs) (map_same g h rest w.1 e)
+
+pub of_all : {X : Type 0} → (g h : ℕ × ℕ → X) → ((c f : ℕ) → HasLine c f → g (c, f) ≡ h (c, f)) → map g all_lines ≡ map h all_lines
+of_all g h e = map_same g h all_lines refl e
+
 -- lines that are the same are counted alike
 pub count_same : (one : Line → ℕ) (lines others : CardLines) → ((c f : ℕ) → HasLine c f → lines c f ≡ others c f) → count one lines ≡ count one others
 count_same one lines others e = sum_same (λ at. one (lines at.0 at.1)) (λ at. one (others at.0 at.1)) all_lines refl (λ c f h. ap one (e c f h))
 
 pub count_none : (one : Line → ℕ) (lines : CardLines) → ((c f : ℕ) → HasLine c f → one (lines c f) ≡ 0) → count one lines ≡ 0
 count_none one lines e = sum_same (λ at. one (lines at.0 at.1)) (λ _. 0) all_lines refl e
+
+-- each line of a list that passes the test is there
+pub there_at : (lines : List (ℕ × ℕ)) → all_have lines ≡ true → (i : ℕ) (at : ℕ × ℕ) → slice_get lines i ≡ Some at → HasLine at.0 at.1
+there_at [] u i at e = cc
+there_at (x ∷ rest) u zero at e =
+    let w = both (has_line x.0 x.1) (all_have rest) u in
+    let p : x ≡ at = cc in
+    subst (λ z. HasLine z.0 z.1) p (there x.0 x.1 w.0)
+there_at (x ∷ rest) u (suc i) at e = there_at rest (both (has_line x.0 x.1) (all_have rest) u).1 i at e

@@ -1,7 +1,6 @@
 //! A set of files, a bit for each.
 ghost use Rattle.std.specs.Prelude.{◌≡◌, ℕ, ◌≤◌, false, ◌||◌, MatchOption, ◌==◌};
 ghost use Rattle.card.specs.Sets.{has};
-ghost use Rattle.sheet.specs.Sheets.{Complete, LowestMissing};
 
 /// The bits of all eighteen files.
 const ALL: u32 = 0x3_ffff;
@@ -13,6 +12,8 @@ pub struct FileSet {
 }
 
 impl FileSet {
+    ghost use Rattle.sheet.specs.Sheets.{Complete, LowestMissing};
+
     /// No file.
     pub(crate) fn empty() -> FileSet
         ensures { (f : ℕ) → has result.bits f ≡ false }
@@ -30,7 +31,7 @@ impl FileSet {
 
     /// The lowest file that is not in the set.
     pub(crate) fn lowest_missing(self) -> Option<u8>
-        ensures { MatchOption result (Complete self) (LowestMissing self) }
+        ensures { MatchOption result (Complete (has self.bits)) (LowestMissing (has self.bits)) }
     {
         let missing = (self.bits ^ ALL) & ALL;
         if missing == 0 {

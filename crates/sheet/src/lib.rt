@@ -5,6 +5,8 @@
 pub mod files;
 pub mod sheet;
 pub mod tally;
+pub mod walk;
 
 pub use sheet::{LINES, Sheet};
 pub use tally::Tally;
+pub use walk::{SheetLine, Walk, line_at};

@@ -1,6 +1,7 @@
 //! Counting lines.
 ghost use Rattle.std.specs.Prelude.{◌≡◌, ◌+◌, ◌<◌, ◌≤◌, length, sum_by};
 ghost use Rattle.card.specs.Sheets.{passing, failing, unapplied, blocked};
+ghost use Rattle.sheet.specs.Tables.{line_count};
 
 use card::Line;
 use std::fmt;
@@ -17,7 +18,8 @@ pub struct Tally {
 impl Tally {
     /// One line more.
     fn count(&mut self, line: Line)
-        requires { (self.old.pass < 255) × (self.old.fail < 255) × (self.old.not_applicable < 255) × (self.old.blocked < 255) }
+        requires { (self.old.pass < 255) × (self.old.fail < 255)
+            × (self.old.not_applicable < 255) × (self.old.blocked < 255) }
         ensures pass { self.new.pass ≡ self.old.pass + passing line }
         ensures fail { self.new.fail ≡ self.old.fail + failing line }
         ensures unapplied { self.new.not_applicable ≡ self.old.not_applicable + unapplied line }
@@ -42,7 +44,7 @@ impl fmt::Display for Tally {
 
 /// Counts a row of lines.
 pub(crate) fn tally_of(lines: &[Line]) -> Tally
-    requires { length lines.now ≤ 75 }
+    requires { length lines.now ≤ line_count }
     ensures pass { result.pass ≡ sum_by passing lines.now }
     ensures fail { result.fail ≡ sum_by failing lines.now }
     ensures unapplied { result.not_applicable ≡ sum_by unapplied lines.now }

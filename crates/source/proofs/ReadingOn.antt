@@ -1,10 +1,10 @@
 -- Reading a file on, one read after another: what was received so far, and what one more read adds to it.
-use Rattle.std.proofs.Common.{◌≡◌, ℕ, ◌+◌, ◌-◌, ◌<◌, ◌≤◌, min, Bool, true, false, List, [], ◌++◌, length, take, drop, Some, None, Ok, Option, Result, sym, refl, ap, ◌∙◌, subst, append_assoc, append-nil, arith, length-drop, length-take, drop-drop, take-add}
+use Rattle.std.proofs.Common.{◌≡◌, ℕ, ◌+◌, ◌-◌, ◌<◌, ◌≤◌, min, Bool, true, false, List, [], ◌++◌, length, take, drop, Some, None, Ok, Option, sym, refl, ap, ◌∙◌, subst, append_assoc, append-nil, arith, length-drop, length-take, drop-drop, take-add}
 use borrow.Rule.Slice.PartMut.{put_mid}
 use Rattle.std.proofs.lemmas.List.{take_at, drop_at, drop_all, take_rest}
 use Rattle.card.specs.Cards.{content}
-use Rattle.source.specs.declared.read.Fault.{Fault}
-use Rattle.source.specs.Reads.{Reads}
+use Rattle.source.specs.Reads.{Request, request, Answer, Reads, ChosenLoss}
+use Rattle.source.specs.Outcomes.{next_read}
 
 -- so many bytes of the file stand at the buffer's start, which is otherwise as it was
 pub record SoFar (f : Option (List ℕ)) (lost₀ lost : Bool) (have : ℕ) (before after : List ℕ) : Type 0 where
@@ -14,14 +14,11 @@ pub record SoFar (f : Option (List ℕ)) (lost₀ lost : Bool) (have : ℕ) (bef
   pub bytes : after ≡ take have (content f) ++ drop have before
   pub some : 0 < have → (lost₀ ≡ false) × (f ≡ Some (content f))
 
--- what a read wants is what is missing, at most 255
-pub asks : {S : Type 0} (steps : S → ℕ → ℕ → ℕ → S → Type 0) {s t : S} {file have wanted : ℕ} → wanted ≡ min (32767 - have) 255 → steps s file have wanted t → steps s file have (min (32767 - have) 255) t
-asks steps {s = s} {t = t} {file = file} {have = have} e h = subst (λ w. steps s file have w t) e h
-
--- the same with what the read answered
-pub tells : {S : Type 0} (outcomes : S → ℕ → ℕ → ℕ → Result (Option ℕ) Fault → S → Type 0) {s t : S} {file have wanted : ℕ} {given answer : Result (Option ℕ) Fault}
-    → wanted ≡ min (32767 - have) 255 → outcomes s file have wanted given t → given ≡ answer → outcomes s file have (min (32767 - have) 255) answer t
-tells outcomes {s = s} {t = t} {file = file} {have = have} {given = given} e h d = subst (λ r. outcomes s file have (min (32767 - have) 255) r t) d (asks (λ s file have wanted t. outcomes s file have wanted given t) e h)
+-- the read that was made is the one that comes next, and this is what it answered
+pub tells : {S : Type 0} (outcomes : S → Request → Answer → S → Type 0) {s t : S} {file have wanted : ℕ} {given answer : Answer}
+    → wanted ≡ min (32767 - have) 255 → outcomes s (request file have wanted) given t → given ≡ answer → outcomes s (next_read file have) answer t
+tells outcomes {s = s} {t = t} {file = file} {have = have} {given = given} e h d =
+    subst (λ r. outcomes s (next_read file have) r t) d (subst (λ w. outcomes s (request file have w) given t) e h)
 
 -- the part of a buffer from a place on, and the buffer with another in its stead
 abbrev pub part : List ℕ → ℕ → List ℕ
@@ -49,17 +46,17 @@ not_lost false lost h e = refl
 -- one more read, over what was received before it
 module _ {lost₀ lost lost' : Bool} {have from : ℕ} {before xs : List ℕ} (file wanted n : ℕ) (ys : List ℕ) where
   pub more : {f f₁ : Option (List ℕ)} → f₁ ≡ f → SoFar f lost₀ lost have before xs → have ≤ length before → from ≡ have → (lost ≡ true → lost' ≡ true) → wanted ≤ 32767 - have
-      → Reads f₁ lost lost' file have wanted (part xs from) ys (Ok (Some n)) → SoFar f lost₀ lost' (have + n) before (put xs from ys)
-  more {f = f} {f₁ = None} same so_far room at lasts most r = absurd r.2
-  more {f = f} {f₁ = Some bs} same so_far room at lasts most r =
+      → Reads f₁ (request file have wanted) (Ok (Some n)) (part xs from) ys → ChosenLoss lost lost' (Ok (Some n)) → SoFar f lost₀ lost' (have + n) before (put xs from ys)
+  more {f = f} {f₁ = None} same so_far room at lasts most r unlost = absurd r.1
+  more {f = f} {f₁ = Some bs} same so_far room at lasts most r unlost =
       let few = so_far.few in
-      let chosen = r.2.0 in
+      let chosen = r.1.0 in
       let is : content f ≡ bs = ap content (sym same) in
       let within : have ≤ length bs = subst (λ z. have ≤ length z) is so_far.within in
       record {
         few = omega arith;
         within = omega (arith, ap length is);
         lasts = λ h. lasts (so_far.lasts h);
-        bytes = rw (at, is) (grown have n bs xs ys before within room (rw is at so_far.bytes) (rw at at r.2.1));
-        some = λ _. (not_lost lost₀ lost so_far.lasts r.1, sym same ∙ ap Some (sym is));
+        bytes = rw (at, is) (grown have n bs xs ys before within room (rw is at so_far.bytes) (rw at at r.1.1));
+        some = λ _. (not_lost lost₀ lost so_far.lasts unlost, sym same ∙ ap Some (sym is));
       }

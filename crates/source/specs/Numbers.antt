@@ -12,6 +12,6 @@ of_fault Malformed = bare 7
 
 -- a whole file; 6 comes with the number of bytes received
 abbrev pub of_whole : WholeRefusal → Refusal
-of_whole NoFile = bare 2
-of_whole ShortBuffer = bare 3
+of_whole (NoFile file) = bare 2
+of_whole (ShortBuffer size) = bare 3
 of_whole (CutOff received loss) = valued 6 received

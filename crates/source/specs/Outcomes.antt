@@ -1,19 +1,35 @@
 -- How reading a whole file comes out of the answers of its reads.
-use Rattle.std.specs.Prelude.{ℕ, ◌+◌, ◌-◌, ◌<◌, min, Some, None, Ok, Err, Option, Result}
-use Rattle.source.specs.declared.read.Fault.{Fault}
+use Rattle.std.specs.Prelude.{ℕ, ◌+◌, ◌-◌, ◌<◌, min, Some, None, Ok, Err}
+use Rattle.source.specs.Reads.{Request, request, Answer}
+use Rattle.source.specs.Whole.{WholeAnswer}
 use Rattle.source.specs.declared.read.Fault.TheVariants.{Lost}
 use Rattle.source.specs.declared.read.Loss.{Loss}
-use Rattle.source.specs.declared.whole.WholeRefusal.{WholeRefusal}
 use Rattle.source.specs.declared.whole.WholeRefusal.TheVariants.{Lost as CutOff}
 
+-- the read that is made of a file once so many bytes are there: it stands behind them, and wants the smaller of 255 and
+-- what is missing to 32,767
+abbrev pub next_read : ℕ → ℕ → Request
+next_read file have = request file have (min (32767 - have) 255)
+
 -- The reads that are made of a file of which so many bytes are there, what each answered and made of the source, and what
--- comes of them. Each wants the smaller of 255 and what is missing to 32,767, and stands behind the bytes of the ones
--- before. Reading ends with the first read that brings no byte, says absent or is refused for a lost link, and otherwise
+-- comes of them; `asks` says of the read that is made once so many bytes are there what it may answer and make of the
+-- source. Reading ends with the first read that brings no byte, says absent or is refused for a lost link, and otherwise
 -- once 32,767 bytes are there.
-pub data ReadsWhole {S : Type 0} (outcomes : S → ℕ → ℕ → ℕ → Result (Option ℕ) Fault → S → Type 0) (file : ℕ) : ℕ → S → Result (Option ℕ) WholeRefusal → S → Type 0 where
-  all_there : {s : S} → ReadsWhole outcomes file 32767 s (Ok (Some 32767)) s
-  none_left : {have : ℕ} {s t : S} → have < 32767 → outcomes s file have (min (32767 - have) 255) (Ok (Some 0)) t → ReadsWhole outcomes file have s (Ok (Some have)) t
-  not_there : {have : ℕ} {s t : S} → have < 32767 → outcomes s file have (min (32767 - have) 255) (Ok None) t → ReadsWhole outcomes file have s (Ok None) t
-  refused : {have : ℕ} {s t : S} (loss : Loss) → have < 32767 → outcomes s file have (min (32767 - have) 255) (Err (Lost loss)) t → ReadsWhole outcomes file have s (Err (CutOff have loss)) t
-  brought : {have : ℕ} {s t u : S} {outcome : Result (Option ℕ) WholeRefusal} (count : ℕ) → have < 32767 → 0 < count
-      → outcomes s file have (min (32767 - have) 255) (Ok (Some count)) t → ReadsWhole outcomes file (have + count) t outcome u → ReadsWhole outcomes file have s outcome u
+pub data ReadsOn {S : Type 0} (asks : ℕ → S → Answer → S → Type 0)
+    : ℕ → S → WholeAnswer → S → Type 0 where
+  all_there : {s : S} → ReadsOn asks 32767 s (Ok (Some 32767)) s
+  none_left : {have : ℕ} {s t : S} → have < 32767 → asks have s (Ok (Some 0)) t
+      → ReadsOn asks have s (Ok (Some have)) t
+  not_there : {have : ℕ} {s t : S} → have < 32767 → asks have s (Ok None) t
+      → ReadsOn asks have s (Ok None) t
+  refused : {have : ℕ} {s t : S} (loss : Loss) → have < 32767 → asks have s (Err (Lost loss)) t
+      → ReadsOn asks have s (Err (CutOff have loss)) t
+  brought : {have : ℕ} {s t u : S} {answer : WholeAnswer} (count : ℕ) → have < 32767 → 0 < count
+      → asks have s (Ok (Some count)) t → ReadsOn asks (have + count) t answer u
+      → ReadsOn asks have s answer u
+
+-- the same of a file that is read from its start, over what a source's reads may answer and make of it
+abbrev pub ReadsWhole : {S : Type 0} → (S → Request → Answer → S → Type 0)
+    → ℕ → S → WholeAnswer → S → Type 0
+ReadsWhole outcomes file s answer t =
+    ReadsOn (λ have s answer t. outcomes s (next_read file have) answer t) 0 s answer t

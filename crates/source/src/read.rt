@@ -1,14 +1,13 @@
 //! What a source of card files means, by ghost members, and what one read of it may answer.
 //! Every source is proved against this one contract, and what reads a source is proved from it alone.
-ghost use Rattle.std.specs.Prelude.{◌≡◌, ℕ, Bool, true, MatchBool, Option, Result};
+ghost use Rattle.std.specs.Prelude.{◌≡◌, ℕ, Bool, true, ◌↔◌, IsTrue};
 ghost use Rattle.card.specs.Cards.{Files, Short};
-ghost use Rattle.source.specs.Reads.{WellFormed, Reads};
+ghost use Rattle.source.specs.Reads.{Request, request, Answer, WellFormed, Reads, ChosenLoss};
 ghost use Rattle.source.specs.Numbers.{of_fault};
-ghost use Rattle.source.specs.declared.read.Fault.{Fault};
 
+use card::number::{LOST, MALFORMED_READ};
 use card::{EF_SOD, Numbered};
-use std::error::Error;
-use std::fmt;
+use thiserror::Error;
 
 /// How many bytes one read can want at most.
 pub const MOST_WANTED: usize = 255;
@@ -18,11 +17,13 @@ pub const MOST_WANTED: usize = 255;
 pub struct Loss;
 
 /// Why a read is refused.
-#[derive(Clone, Copy, Debug, PartialEq, Eq)]
+#[derive(Clone, Copy, Debug, PartialEq, Eq, Error)]
 pub enum Fault {
     /// The link is lost.
+    #[error("refusal {n}: the link is lost", n = LOST)]
     Lost(Loss),
     /// No such file, nothing or too much wanted, or a buffer shorter than that.
+    #[error("refusal {n}: the read is malformed", n = MALFORMED_READ)]
     Malformed,
 }
 
@@ -31,19 +32,11 @@ impl Numbered for Fault {
 
     fn number(self) -> u8 {
         match self {
-            Fault::Lost(_) => 6,
-            Fault::Malformed => 7,
+            Fault::Lost(_) => LOST,
+            Fault::Malformed => MALFORMED_READ,
         }
     }
 }
-
-impl fmt::Display for Fault {
-    fn fmt<W: fmt::Write>(&self, f: &mut fmt::Formatter<W>) -> fmt::Result {
-        write!(f, "refusal {}", self.number())
-    }
-}
-
-impl Error for Fault {}
 
 /// A source of a card's files over a link that can be lost.
 pub trait Source {
@@ -56,11 +49,8 @@ pub trait Source {
     /// No file is too long.
     ghost bounded: { (s : Self) (f : ℕ) → Short (files s f) };
 
-    /// What one well-formed read of a file, from a place on, of so many bytes wanted, makes of the source itself.
-    ghost steps: { Self → ℕ → ℕ → ℕ → Self → Type 0 };
-
-    /// What such a read answers, and what it makes of the source then.
-    ghost outcomes: { Self → ℕ → ℕ → ℕ → Result (Option ℕ) Fault → Self → Type 0 };
+    /// What one well-formed read may answer, and what it makes of the source itself.
+    ghost outcomes: { Self → Request → Answer → Self → Type 0 };
 
     /// Reads at most `wanted` bytes of a file from a place on to the buffer's start: `None` where the card has no such file,
     /// else how many bytes stand there, 0 at or past the file's end. The source chooses how many, and when its link is lost.
@@ -73,15 +63,18 @@ pub trait Source {
     ) -> Result<Option<usize>, Fault>
         ensures files { files self.new ≡ files self.old }
         ensures lasts { lost self.old ≡ true → lost self.new ≡ true }
-        ensures reads { Reads (files self.old file) (lost self.old) (lost self.new) file place wanted buffer.old buffer.new result }
-        ensures steps { WellFormed file wanted buffer.old → steps self.old file place wanted self.new }
-        ensures outcomes { WellFormed file wanted buffer.old → outcomes self.old file place wanted result self.new }
-        ensures still { (WellFormed file wanted buffer.old → ⊥) → self.new ≡ self.old };
+        ensures reads { Reads (files self.old file) (request file place wanted) result
+            buffer.old buffer.new }
+        ensures loss { ChosenLoss (lost self.old) (lost self.new) result }
+        ensures outcomes { let asked = request file place wanted in
+            WellFormed asked buffer.old → outcomes self.old asked result self.new }
+        ensures still { (WellFormed (request file place wanted) buffer.old → ⊥)
+            → self.new ≡ self.old };
 }
 
-/// Whether a source may take such a read.
+/// Whether a source may take such a read, from whatever place.
 pub fn well_formed(file: u8, wanted: usize, buffer: &[u8]) -> bool
-    ensures { MatchBool result (WellFormed file wanted buffer.now) (WellFormed file wanted buffer.now → ⊥) }
+    ensures { IsTrue result ↔ WellFormed (request file 0 wanted) buffer.now }
 {
     file <= EF_SOD && wanted > 0 && wanted <= MOST_WANTED && wanted <= buffer.len()
 }

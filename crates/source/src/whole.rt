@@ -1,23 +1,26 @@
 //! Reading a whole file from any source, whatever counts it answers and whenever its link is lost.
 //! A short answer is not the end: reading goes on until nothing comes, the file is absent, or it can have no more bytes.
 ghost use Rattle.std.specs.Prelude.{◌≡◌, ℕ, ◌≤◌, true, length};
-ghost use Rattle.source.specs.Whole.{Ready, Wholly, ReadsOn};
+ghost use Rattle.source.specs.Whole.{Ready, Wholly, WholeLoss, WholeNames};
 ghost use Rattle.source.specs.Outcomes.{ReadsWhole};
 ghost use Rattle.source.specs.Numbers.{of_whole};
 
 use crate::read::{Fault, Loss, MOST_WANTED, Source};
+use card::number::{LOST, NOT_THERE, SHORT_BUFFER};
 use card::{EF_SOD, LONGEST, Numbered};
-use std::error::Error;
-use std::fmt;
+use thiserror::Error;
 
 /// Why a file is not read whole.
-#[derive(Clone, Copy, Debug, PartialEq, Eq)]
+#[derive(Clone, Copy, Debug, PartialEq, Eq, Error)]
 pub enum WholeRefusal {
     /// A card has no file of this number.
-    NoFile,
-    /// The longest file would not fit into the buffer.
-    ShortBuffer,
+    #[error("refusal {n}: there is no file {file}", n = NOT_THERE)]
+    NoFile { file: u8 },
+    /// The longest file would not fit into a buffer of this size.
+    #[error("refusal {n}: a buffer of {size} bytes is too short", n = SHORT_BUFFER)]
+    ShortBuffer { size: usize },
     /// The link is lost; so many bytes of the file stand at the buffer's start.
+    #[error("refusal {n}: the link is lost after {received} bytes", n = LOST)]
     Lost { received: u16, loss: Loss },
 }
 
@@ -26,27 +29,12 @@ impl Numbered for WholeRefusal {
 
     fn number(self) -> u8 {
         match self {
-            WholeRefusal::NoFile => 2,
-            WholeRefusal::ShortBuffer => 3,
-            WholeRefusal::Lost { .. } => 6,
+            WholeRefusal::NoFile { .. } => NOT_THERE,
+            WholeRefusal::ShortBuffer { .. } => SHORT_BUFFER,
+            WholeRefusal::Lost { .. } => LOST,
         }
     }
 }
-
-impl fmt::Display for WholeRefusal {
-    fn fmt<W: fmt::Write>(&self, f: &mut fmt::Formatter<W>) -> fmt::Result {
-        write!(f, "refusal {}", self.number())?;
-        match *self {
-            WholeRefusal::Lost { received, .. } => write!(
-                f,
-                ", the link is lost after {received} bytes"
-            ),
-            _ => Ok(()),
-        }
-    }
-}
-
-impl Error for WholeRefusal {}
 
 /// Reads a whole file to the buffer's start, and says how many bytes it has; `None` where it is absent.
 pub fn read_whole<S: Source>(
@@ -56,16 +44,18 @@ pub fn read_whole<S: Source>(
 ) -> Result<Option<usize>, WholeRefusal>
     ensures files { S.files source.new ≡ S.files source.old }
     ensures lasts { S.lost source.old ≡ true → S.lost source.new ≡ true }
-    ensures wholly { Wholly (S.files source.old file) (S.lost source.old) (S.lost source.new) file buffer.old buffer.new result }
-    ensures reads { Ready file buffer.old → ReadsOn S.steps file 0 source.old source.new }
-    ensures outcome { Ready file buffer.old → ReadsWhole S.outcomes file 0 source.old result source.new }
+    ensures wholly { Wholly (S.files source.old file) file result buffer.old buffer.new }
+    ensures loss { WholeLoss (S.lost source.old) (S.lost source.new) result }
+    ensures named { WholeNames file buffer.old result }
+    ensures outcome { Ready file buffer.old
+        → ReadsWhole S.outcomes file source.old result source.new }
     ensures still { (Ready file buffer.old → ⊥) → source.new ≡ source.old }
 {
     if file > EF_SOD {
-        return Err(WholeRefusal::NoFile);
+        return Err(WholeRefusal::NoFile { file });
     }
     if buffer.len() < usize::from(LONGEST) {
-        return Err(WholeRefusal::ShortBuffer);
+        return Err(WholeRefusal::ShortBuffer { size: buffer.len() });
     }
     // Grows by what each read brought: at most 255 bytes, so the cast keeps the count.
     let mut have: u16 = 0;

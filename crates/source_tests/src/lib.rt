@@ -5,6 +5,8 @@
 mod images;
 #[cfg(test)]
 mod links;
+#[cfg(test)]
+mod texts;
 
 #[cfg(test)]
 use card::Numbered;

@@ -4,7 +4,7 @@ use Rattle.std.proofs.lemmas.List.{get_or-drop, take_all}
 use Rattle.std.proofs.lemmas.Bool.{cases_eq}
 use Rattle.std.proofs.lemmas.Bool.Decides.{Decides-like}
 use Rattle.text.specs.Characters.{PlainCharacter}
-use Rattle.text.specs.Names.{Pair, FirstPair, LetterAt, Alone, Filled}
+use Rattle.text.specs.Names.{Pair, FirstPair, LetterAt, Alone, AllFillers}
 
 -- what is left of a text after n characters, as a slice is cut
 abbrev pub after : ℕ → List ℕ → List ℕ
@@ -44,7 +44,7 @@ module _ (xs : List ℕ) (p : ℕ) (first : FirstPair xs p) where
     behind : (k : ℕ) → get_or (drop q (drop (p + 1) xs)) k 0 ≡ get_or xs (p + 1 + (q + k)) 0
     behind k = get_or-drop q (drop (p + 1) xs) k 0 ∙ get_or-drop (p + 1) xs (q + k) 0
 
-    if_filled : Filled (drop q (drop (p + 1) xs)) → Alone xs
+    if_filled : AllFillers (drop q (drop (p + 1) xs)) → Alone xs
     if_filled filled = all_first (λ j l t h. where_pair j l t h (λ b s.
         let far = second.1 (j - (p + 1)) s in
         let k = l - (p + 1 + q) in
@@ -66,16 +66,16 @@ module _ (xs : List ℕ) (p : ℕ) (first : FirstPair xs p) where
           let same = one p (p + 1 + q) _ _ (omega arith, first.0.1, first.0.2) h (omega arith, s0, s2) h in
           omega arith
 
-      if_alone : Alone xs → Filled (drop q (drop (p + 1) xs))
+      if_alone : Alone xs → AllFillers (drop q (drop (p + 1) xs))
       if_alone one k h =
           let in_xs : p + 1 + (q + k) < length xs = omega (arith, length-drop q (drop (p + 1) xs), length-drop (p + 1) xs) in
           behind k ∙ ⊎_elim (λ l. absurd (letter_behind k (in_xs, l) one)) (λ f. f) (plain (p + 1 + (q + k)) in_xs)
 
-      decided : (r : Bool) → Decides r (Filled (drop q (drop (p + 1) xs))) → Decides r (Alone xs)
+      decided : (r : Bool) → Decides r (AllFillers (drop q (drop (p + 1) xs))) → Decides r (Alone xs)
       decided r d = Decides-like r if_filled if_alone d
 
   -- and behind a second pair there is to be nothing but fillers
-  pub some : (q : ℕ) (r : Bool) → FirstPair (after (p + 1) xs) q → Decides r (Filled (after q (after (p + 1) xs)))
+  pub some : (q : ℕ) (r : Bool) → FirstPair (after (p + 1) xs) q → Decides r (AllFillers (after q (after (p + 1) xs)))
       → ((k : ℕ) → k < length xs → PlainCharacter (get_or xs k 0)) → Decides r (Alone xs)
   some q r second d plain =
       let e = after_is (p + 1) xs in

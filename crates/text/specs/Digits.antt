@@ -1,10 +1,12 @@
 -- Check digits: values of characters, weights, and the remainder of the weighted sum by 10.
-use Rattle.std.specs.Prelude.{ℕ, suc, ◌+◌, ◌-◌, ◌*◌, ◌%◌, ◌<◌, cond, ◌&&◌, List, [], ◌∷◌, length, ◌≢◌, nat_le, slice_index, slice_set}
+use Rattle.std.specs.Prelude.{ℕ, suc, ◌+◌, ◌-◌, ◌*◌, ◌%◌, ◌<◌, ◌&&◌, if◌then◌else◌, List, [], ◌∷◌, length, ◌≢◌, nat_le, slice_index, slice_set}
 use Rattle.text.specs.Characters.{Digit}
 
 -- a digit has its own value, the letters A to Z have 10 to 35, the filler has 0
 abbrev pub value_of : ℕ → ℕ
-value_of c = cond (nat_le 48 c && nat_le c 57) (c - 48) (cond (nat_le 65 c && nat_le c 90) (c - 55) 0)
+value_of c =
+    if nat_le 48 c && nat_le c 57 then c - 48
+    else (if nat_le 65 c && nat_le c 90 then c - 55 else 0)
 
 -- the weights 7, 3, 1 repeat
 abbrev pub weights : List ℕ
@@ -24,5 +26,6 @@ check_digit_of characters = weighted 0 characters % 10
 
 -- Any one digit of the characters put for another gives another check digit than this.
 abbrev pub ChangesShow : List ℕ → ℕ → Type 0
-ChangesShow characters digit = (i d : ℕ) → i < length characters → Digit (slice_index characters i) → Digit d
-    → (d ≢ slice_index characters i) → check_digit_of (slice_set characters i d) ≢ digit
+ChangesShow characters digit = (i d : ℕ) → i < length characters
+    → Digit (slice_index characters i) → Digit d → (d ≢ slice_index characters i)
+    → check_digit_of (slice_set characters i d) ≢ digit

@@ -1,11 +1,10 @@
 //! Dates: six digits YYMMDD that write an existing day. No century is guessed.
-ghost use Rattle.std.specs.Prelude.{◌≡◌, Decides, MatchOption};
-ghost use Rattle.text.specs.Characters.{Digit};
-ghost use Rattle.text.specs.Dates.{two_digits, days_in_month, Date};
+ghost use Rattle.std.specs.Prelude.{◌≡◌, ◌↔◌, IsTrue, MatchOption};
+ghost use Rattle.text.specs.Dates.{two_digits, days_in_month, AreDigits, Date};
 
 /// Whether the field is the date of an existing day.
 pub fn is_date(field: &[u8]) -> bool
-    ensures { Decides result (Date field.now) }
+    ensures { IsTrue result ↔ Date field.now }
 {
     let &[y1, y2, m1, m2, d1, d2] = field else {
         return false;
@@ -19,7 +18,8 @@ pub fn is_date(field: &[u8]) -> bool
 
 /// The number that two digits write; `None` exactly if one of them is no digit.
 fn number(tens: u8, ones: u8) -> Option<u8>
-    ensures { MatchOption result (Digit tens × Digit ones → ⊥) (λ n. Digit tens × Digit ones × (n ≡ two_digits tens ones)) }
+    ensures { MatchOption result (AreDigits tens ones → ⊥)
+        (λ n. AreDigits tens ones × (n ≡ two_digits tens ones)) }
 {
     if tens.is_ascii_digit() && ones.is_ascii_digit() {
         Some((tens - b'0') * 10 + (ones - b'0'))

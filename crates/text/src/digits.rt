@@ -68,7 +68,8 @@ fn kept_small(sum: u32) -> u32
 
 /// The weights of three characters that have so many before them.
 fn weights_after(before: usize) -> [u32; 3]
-    ensures turn { result ≡ weight_at before ∷ weight_at (before + 1) ∷ weight_at (before + 2) ∷ [] }
+    ensures turn { result ≡
+        weight_at before ∷ weight_at (before + 1) ∷ weight_at (before + 2) ∷ [] }
     ensures small { (k : ℕ) → weight_at k ≤ 7 }
 {
     match before % 3 {

@@ -1,11 +1,10 @@
 //! Names: letters with single fillers between them and at most one pair of fillers, filled up with fillers.
-ghost use Rattle.std.specs.Prelude.{ℕ, ◌<◌, length, Decides, MatchOption, slice_index};
-ghost use Rattle.text.specs.Characters.{PlainCharacter};
-ghost use Rattle.text.specs.Names.{Pair, FirstPair, Alone, Filled, Name};
+ghost use Rattle.std.specs.Prelude.{◌↔◌, IsTrue, MatchOption};
+ghost use Rattle.text.specs.Names.{AllPlain, NoPair, FirstPair, Alone, AllFillers, Name};
 
 /// Whether the field is a name.
 pub fn is_name(field: &[u8]) -> bool
-    ensures { Decides result (Name field.now) }
+    ensures { IsTrue result ↔ Name field.now }
 {
     match field {
         [b'A'..=b'Z', ..] => is_plain(field) && has_one_pair(field),
@@ -16,7 +15,7 @@ pub fn is_name(field: &[u8]) -> bool
 // No early end, so that many characters are tested at once.
 /// Whether the field is made of letters and fillers.
 fn is_plain(field: &[u8]) -> bool
-    ensures { Decides result ((k : ℕ) → k < length field.now → PlainCharacter (slice_index field.now k)) }
+    ensures { IsTrue result ↔ AllPlain field.now }
 {
     let mut plain = true;
     for character in field {
@@ -27,8 +26,8 @@ fn is_plain(field: &[u8]) -> bool
 
 /// Whether two fillers stand together at most once before the last letter: behind a second pair come fillers alone.
 fn has_one_pair(field: &[u8]) -> bool
-    requires plain { (k : ℕ) → k < length field.now → PlainCharacter (slice_index field.now k) }
-    ensures { Decides result (Alone field.now) }
+    requires plain { AllPlain field.now }
+    ensures { IsTrue result ↔ Alone field.now }
 {
     let Some(first) = first_pair(field) else {
         return true;
@@ -42,7 +41,7 @@ fn has_one_pair(field: &[u8]) -> bool
 
 /// Where two fillers first stand together; `None` exactly if they do not.
 fn first_pair(text: &[u8]) -> Option<usize>
-    ensures { MatchOption result ((k : ℕ) → Pair text.now (length text.now) k → ⊥) (FirstPair text.now) }
+    ensures { MatchOption result (NoPair text.now) (FirstPair text.now) }
 {
     text.windows(2)
         .position(|pair| matches!(*pair, [b'<', b'<']))
@@ -51,7 +50,7 @@ fn first_pair(text: &[u8]) -> Option<usize>
 // No early end, as in `is_plain`.
 /// Whether the field is all fillers.
 pub fn is_filled(field: &[u8]) -> bool
-    ensures { Decides result (Filled field.now) }
+    ensures { IsTrue result ↔ AllFillers field.now }
 {
     let mut filled = true;
     for character in field {

@@ -5,10 +5,10 @@ use Rattle.std.proofs.lemmas.List.{get_or_append_left, get_or-append-add, get_or
 use Rattle.text.specs.Characters.{Digit}
 use Rattle.text.specs.Digits.{check_digit_of}
 use Rattle.text.proofs.Weights.{changed}
-use Rattle.zone.specs.Layouts.{part, covered, Within, Lawful}
+use Rattle.zone.specs.Layouts.{part, covered, Within, LawfulPlaces}
 use Rattle.zone.specs.Fields.{Composite}
 use Rattle.zone.specs.Lines.{AreLayoutLines}
-use Rattle.zone.specs.Changes.{In, Covers, OtherDigit, ChangesShow}
+use Rattle.zone.specs.Changes.{In, Covers, OtherDigit, DigitChangesShow}
 use Rattle.zone.specs.declared.layout.Span.{Span}
 use Rattle.zone.specs.declared.layout.Places.{Places}
 use Rattle.zone.specs.declared.lines.ZoneLines.{ZoneLines}
@@ -63,7 +63,7 @@ module _ (zone : List ℕ) (i d : ℕ) (s : Span) (within : Within (length zone)
       let e : s.start + j ≡ i = omega arith in
       ap (λ k. take n (drop s.start (set zone k d))) (sym e) ∙ ap (take n) (drop-set-add s.start zone j d) ∙ take-set-le n (drop s.start zone) j d (omega arith)
 
-module _ (p : Places) (law : Lawful p) (zone : List ℕ) (i d : ℕ) (len : length zone ≡ p.len) where
+module _ (p : Places) (law : LawfulPlaces p) (zone : List ℕ) (i d : ℕ) (len : length zone ≡ p.len) where
   within : (s : Span) → Within p.len s → Within (length zone) s
   within s w = (w.0, omega arith)
 
@@ -129,5 +129,5 @@ module _ (p : Places) (law : Lawful p) (zone : List ℕ) (i d : ℕ) (len : leng
   pub change_shows : OtherDigit p zone i d → Composite zone p.cover p.composite → Composite (set zone i d) p.cover p.composite → ⊥
   change_shows o before after = ⊎_elim (λ c. covered_shows o c before after) (λ e. composite_shows o e before after) o.place
 
-pub shows : (p : Places) (place : ℕ) (t : List ℕ) (lines : ZoneLines) → Lawful p → AreLayoutLines p place t lines → ChangesShow p t lines
+pub shows : (p : Places) (place : ℕ) (t : List ℕ) (lines : ZoneLines) → LawfulPlaces p → AreLayoutLines p place t lines → DigitChangesShow p t lines
 shows p place t lines law s e h i d o after = change_shows p law h.zone i d h.long o (composite_of p place t lines s e h) after

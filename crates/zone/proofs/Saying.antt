@@ -1,23 +1,23 @@
 -- From what the tests found to what the lines say.
-use Rattle.std.proofs.Common.{◌≡◌, ℕ, Bool, true, false, List, Decides, sym, refl, ap, ◌∙◌, ◌==◌, cond, subst, arith}
+use Rattle.std.proofs.Common.{◌≡◌, ℕ, Bool, true, false, List, Decides, sym, refl, ap, subst, arith}
 use Rattle.std.proofs.lemmas.Bool.Decides.{not_from_Decides}
 use Rattle.card.specs.Lines.{line_of, Says, Gates}
 use Rattle.card.specs.declared.line.Line.{Line}
 use Rattle.card.specs.declared.line.Line.TheVariants.{Open, Pass, Fail, NotApplicable, Blocked}
 use Rattle.card.specs.Profiles.{kind_of}
 use Rattle.card.specs.declared.profile.Kind.{Kind}
-use Rattle.card.specs.declared.profile.Kind.TheVariants.{Td1, Td2, Td3}
+use Rattle.card.specs.declared.profile.Profile.{Profile}
 use Rattle.object.proofs.Laws.{same}
 use Rattle.object.specs.declared.reader.Value.{Value}
 use Rattle.std.specs.Fn.{FnReturnsAt}
 use denote.Param.Members.{Shared}
 use denote.Ref.{Bor}
-use Rattle.zone.specs.declared.fields.Field.{Field}
+use Rattle.zone.specs.declared.fields.DigitField.{DigitField}
 use Rattle.zone.specs.declared.layout.Span.{Span}
 use Rattle.zone.specs.declared.layout.Places.{Places}
 use Rattle.zone.specs.declared.lines.ZoneLines.{ZoneLines}
-use Rattle.zone.specs.Layouts.{td1, td2, td3, layout_of}
-use Rattle.zone.specs.Contents.{Holds, Contains}
+use Rattle.zone.specs.Layouts.{places_of}
+use Rattle.zone.specs.Contents.{HoldsZone, FoundZone}
 use Rattle.zone.specs.Fields.{Composite}
 use Rattle.zone.specs.Lines.{AreCharacterLines, AreLayoutLines, AreZoneLines}
 
@@ -35,7 +35,7 @@ says_part {place} {l} P c decides =
 
 -- and with a field
 pub says_field : {zone : List ℕ} {s : Span} {place : ℕ} {l : Line} (P : List ℕ → Span → Type 0)
-    → (x : Field) × (holds : Bool) × (x.zone.now ≡ zone) × (x.span ≡ s) × (Field × Decides holds (P x.zone.now x.span)) × (l ≡ line_of holds place)
+    → (x : DigitField) × (holds : Bool) × (x.zone.now ≡ zone) × (x.span ≡ s) × (DigitField × Decides holds (P x.zone.now x.span)) × (l ≡ line_of holds place)
     → Says l (P zone s) (λ at. at ≡ place)
 says_field {place} {l} P c =
     subst (λ ys. Says l (P ys _) (λ at. at ≡ place)) c.2 (subst (λ r. Says l (P c.0.zone.now r) (λ at. at ≡ place)) c.3 (says c.1 place l c.5 c.4.1))
@@ -49,7 +49,7 @@ passing : (l : Line) (P : Type 0) (At : ℕ → Type 0) (later : P → Type 0) (
 passing l P At later blocked e h s = subst (λ m. Gates m P At later blocked) (sym e) (h, s)
 
 -- the lines of a zone that was found
-pub found : (p : Places) (place : ℕ) (t : List ℕ) (z : Value) (lines : ZoneLines) → Contains place p.len t z → lines.zone ≡ Pass
+pub found : (p : Places) (place : ℕ) (t : List ℕ) (z : Value) (lines : ZoneLines) → FoundZone place p.len t z → lines.zone ≡ Pass
     → AreCharacterLines p z.place z.bytes.now lines → AreLayoutLines p place t lines
 found p place t z lines c e s =
     passing lines.zone _ _ _ _ e c.holds
@@ -69,25 +69,12 @@ not_both l b e = let z : ◌≡◌ {A = ℕ} 0 1 = cc in omega arith
 
 -- where case 20 passes, the composite of the zone is right
 pub composite_of : (p : Places) (place : ℕ) (t : List ℕ) (lines : ZoneLines) → AreLayoutLines p place t lines → lines.composite ≡ Pass
-    → (h : Holds p.len t) → Composite h.zone p.cover p.composite
+    → (h : HoldsZone p.len t) → Composite h.zone p.cover p.composite
 composite_of p place t lines s e h =
     gated lines.zone _ _ _ _ s (λ b. absurd (not_both _ b.1.composite e))
     (λ k more. gated lines.characters _ _ _ _ more (λ b. absurd (not_both _ b.composite e))
     (λ _ fields. subst (λ z. Composite z p.cover p.composite) (same k.has_zone h.has_zone).1 (says_pass _ _ lines.composite e fields.composite)))
 
--- which layout belongs to a kind
-abbrev pub places_of : Kind → Places
-places_of Td1 = td1
-places_of Td2 = td2
-places_of Td3 = td3
-
-layout_by_kind : (kind : ℕ) → places_of (kind_of kind) ≡ layout_of kind
-layout_by_kind kind = by_tests (kind == 1) (kind == 2)
-  where
-    by_tests : (one two : Bool) → places_of (cond one Td1 (cond two Td2 Td3)) ≡ cond one td1 (cond two td2 td3)
-    by_tests true two = refl
-    by_tests false true = refl
-    by_tests false false = refl
-
-pub under_kind : (kind : ℕ) (k : Kind) (place : ℕ) (t : List ℕ) (lines : ZoneLines) → k ≡ kind_of kind → AreLayoutLines (places_of k) place t lines → AreZoneLines kind place t lines
-under_kind kind k place t lines e s = subst (λ p. AreLayoutLines p place t lines) (ap places_of e ∙ layout_by_kind kind) s
+-- the lines under the layout of a profile's kind
+pub under_kind : (profile : Profile) (k : Kind) (place : ℕ) (t : List ℕ) (lines : ZoneLines) → k ≡ kind_of profile → AreLayoutLines (places_of k) place t lines → AreZoneLines profile place t lines
+under_kind profile k place t lines e s = subst (λ p. AreLayoutLines p place t lines) (ap places_of e) s

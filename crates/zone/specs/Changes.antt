@@ -2,7 +2,7 @@
 use Rattle.std.specs.Prelude.{◌≡◌, ℕ, ◌<◌, ◌≤◌, ◌⊎◌, List, slice_index, slice_set}
 use Rattle.card.specs.declared.line.Line.TheVariants.{Pass}
 use Rattle.text.specs.Characters.{Digit}
-use Rattle.zone.specs.Contents.{Holds}
+use Rattle.zone.specs.Contents.{HoldsZone}
 use Rattle.zone.specs.Fields.{Composite}
 use Rattle.zone.specs.declared.layout.Span.{Span}
 use Rattle.zone.specs.declared.layout.Cover.{Cover}
@@ -29,6 +29,7 @@ pub record OtherDigit (p : Places) (zone : List ℕ) (i d : ℕ) : Type 0 where
   pub other : d ≡ slice_index zone i → ⊥
 
 -- Where case 20 passes, the composite is not right in the zone with any one digit at a checked place put for another.
-abbrev pub ChangesShow : Places → List ℕ → ZoneLines → Type 0
-ChangesShow p template lines = lines.composite ≡ Pass → (h : Holds p.len template) (i d : ℕ) → OtherDigit p h.zone i d
+abbrev pub DigitChangesShow : Places → List ℕ → ZoneLines → Type 0
+DigitChangesShow p template lines = lines.composite ≡ Pass
+    → (h : HoldsZone p.len template) (i d : ℕ) → OtherDigit p h.zone i d
     → Composite (slice_set h.zone i d) p.cover p.composite → ⊥

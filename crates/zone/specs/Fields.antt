@@ -3,6 +3,7 @@ use Rattle.std.specs.Prelude.{◌≡◌, ℕ, ◌+◌, ◌<◌, Bool, ◌⊎◌,
 use Rattle.text.specs.Characters.{Letter, filler, PlainCharacter, ZoneCharacter}
 use Rattle.text.specs.Digits.{check_digit_of}
 use Rattle.text.specs.Dates.{Date}
+use Rattle.text.specs.Names.{AllFillers}
 use Rattle.zone.specs.Layouts.{part, covered}
 use Rattle.zone.specs.declared.layout.Span.{Span}
 use Rattle.zone.specs.declared.layout.Cover.{Cover}
@@ -38,7 +39,8 @@ pub record State (field : List ℕ) : Type 0 where
   pub three : length field ≡ 3
   pub first : Letter (slice_index field 0)
   pub plain : (k : ℕ) → k < 3 → PlainCharacter (slice_index field k)
-  pub then_fillers : (j k : ℕ) → j < k → k < 3 → slice_index field j ≡ filler → slice_index field k ≡ filler
+  pub then_fillers : (j k : ℕ) → j < k → k < 3
+      → slice_index field j ≡ filler → slice_index field k ≡ filler
 
 -- the character behind the field is the character 0 to 9 of the field's check digit
 abbrev pub RightDigit : List ℕ → Span → Type 0
@@ -59,8 +61,7 @@ Sex c = (c ≡ 77) ⊎ ((c ≡ 70) ⊎ (c ≡ filler))
 -- the check digit is right; or the whole field is fillers and a filler stands for the digit
 abbrev pub Optional : List ℕ → Span → Type 0
 Optional zone s =
-    RightDigit zone s
-    ⊎ ((slice_index zone s.end ≡ filler) × ((k : ℕ) → k < length (part zone s) → slice_index (part zone s) k ≡ filler))
+    RightDigit zone s ⊎ ((slice_index zone s.end ≡ filler) × AllFillers (part zone s))
 
 -- the character at this index is the check digit of all covered characters taken together
 abbrev pub Composite : List ℕ → Cover → ℕ → Type 0

@@ -1,5 +1,9 @@
 -- The three layouts of the zone, as data. Characters are counted from 0.
-use Rattle.std.specs.Prelude.{ℕ, ◌-◌, ◌<◌, ◌≤◌, true, false, cond, List, ◌++◌, take, drop, IfSome, Some, None, ◌==◌}
+use Rattle.std.specs.Prelude.{ℕ, ◌-◌, ◌<◌, ◌≤◌, true, false, List, ◌++◌, take, drop, IfSome, Some, None}
+use Rattle.card.specs.Profiles.{kind_of}
+use Rattle.card.specs.declared.profile.Kind.{Kind}
+use Rattle.card.specs.declared.profile.Kind.TheVariants.{Td1, Td2, Td3}
+use Rattle.card.specs.declared.profile.Profile.{Profile}
 use Rattle.zone.specs.declared.layout.Span.{Span}
 use Rattle.zone.specs.declared.layout.Cover.{Cover}
 use Rattle.zone.specs.declared.layout.Places.{Places}
@@ -59,9 +63,14 @@ td3 = record {
   composite = 87;
 }
 
--- the layout of a kind: 1 is TD1, 2 is TD2, 3 is TD3
-abbrev pub layout_of : ℕ → Places
-layout_of kind = cond (kind == 1) td1 (cond (kind == 2) td2 td3)
+-- the layout of a kind of zone, and that of a profile's kind
+abbrev pub places_of : Kind → Places
+places_of Td1 = td1
+places_of Td2 = td2
+places_of Td3 = td3
+
+abbrev pub layout_of : Profile → Places
+layout_of profile = places_of (kind_of profile)
 
 -- the characters of a span
 abbrev pub part : List ℕ → Span → List ℕ
@@ -80,11 +89,14 @@ abbrev pub Checked : ℕ → Span → Type 0
 Checked n s = (s.start ≤ s.end) × (s.end < n)
 
 -- the covered characters follow one another, each counted once, before the composite, which is not among them
-abbrev pub Rising : Cover → ℕ → Type 0
-Rising cover composite = (cover.first.end ≤ cover.second.start) × (cover.second.end ≤ cover.third.start) × (cover.third.end ≤ composite)
+abbrev pub RisingCover : Cover → ℕ → Type 0
+RisingCover cover composite =
+    (cover.first.end ≤ cover.second.start)
+    × (cover.second.end ≤ cover.third.start)
+    × (cover.third.end ≤ composite)
 
 -- the fields, their check digits, the covered characters and the composite lie in the zone, and the covered ones rise
-pub record Lawful (p : Places) : Type 0 where
+pub record LawfulPlaces (p : Places) : Type 0 where
   pub code : Within p.len p.code
   pub issuer : Within p.len p.issuer
   pub name : Within p.len p.name
@@ -98,4 +110,4 @@ pub record Lawful (p : Places) : Type 0 where
   pub second : Within p.len p.cover.second
   pub third : Within p.len p.cover.third
   pub composite : p.composite < p.len
-  pub rising : Rising p.cover p.composite
+  pub rising : RisingCover p.cover p.composite

@@ -4,13 +4,13 @@ ghost use Rattle.std.specs.Fn.{FnReturnsAt};
 ghost use Rattle.card.specs.Lines.{line_of};
 ghost use Rattle.card.specs.declared.line.Line.TheVariants.{Pass};
 ghost use Rattle.object.specs.Readers.{rest_of};
-ghost use Rattle.zone.specs.Layouts.{part, Within, Checked, Lawful};
-ghost use Rattle.zone.specs.Lines.{AreFieldLines, AreCharacterLines, AreLayoutLines, blocked_zone_lines};
-ghost use Rattle.zone.specs.declared.fields.Field.{Field};
-ghost use Rattle.zone.specs.Changes.{ChangesShow};
+ghost use Rattle.zone.specs.Layouts.{part, Within, Checked, LawfulPlaces};
+ghost use Rattle.zone.specs.Lines.{AreFieldLines, AreCharacterLines, AreLayoutLines};
+ghost use Rattle.zone.specs.declared.fields.DigitField.{DigitField};
+ghost use Rattle.zone.specs.Changes.{DigitChangesShow};
 
 use crate::contents::read_zone;
-use crate::fields::{Field, cut, first_other, is_code, is_composite, is_sex, is_state};
+use crate::fields::{DigitField, cut, first_other, is_code, is_composite, is_sex, is_state};
 use crate::layout::{Layout, Places, Span};
 use crate::lines::ZoneLines;
 use card::Line;
@@ -20,16 +20,16 @@ use text::is_name;
 /// Cases 9 to 20, over the value of DG1's template, which the reader has before it.
 pub(crate) fn judge<L: Layout>(reader: Reader<'_>) -> ZoneLines
     ensures lines { AreLayoutLines L.PLACES reader.entry.position (rest_of reader.entry) result }
-    ensures changes { ChangesShow L.PLACES (rest_of reader.entry) result }
+    ensures changes { DigitChangesShow L.PLACES (rest_of reader.entry) result }
 {
     let places = L::spans();
     match read_zone(reader, places.len) {
-        Some(zone) => judge_zone(zone, places),
+        Some(zone) => judge_characters(zone, places),
         None => ZoneLines {
             zone: Line::Fail {
                 place: reader.position,
             },
-            ..blocked(places)
+            ..ZoneLines::unjudged_under(Line::Blocked, places)
         },
     }
 }
@@ -37,8 +37,8 @@ pub(crate) fn judge<L: Layout>(reader: Reader<'_>) -> ZoneLines
 // Inlined, as `judge_fields` is: the places of each layout are then constants, and none are copied.
 /// Cases 10 to 20, over a zone with its fields in these places.
 #[inline(always)]
-fn judge_zone(zone: Value<'_>, places: Places) -> ZoneLines
-    requires lawful { Lawful places }
+fn judge_characters(zone: Value<'_>, places: Places) -> ZoneLines
+    requires lawful { LawfulPlaces places }
     requires long { length zone.bytes.now ≡ places.len }
     ensures zone { result.zone ≡ Pass }
     ensures lines { AreCharacterLines places zone.entry.place zone.entry.bytes.now result }
@@ -49,7 +49,7 @@ fn judge_zone(zone: Value<'_>, places: Places) -> ZoneLines
             characters: Line::Fail {
                 place: zone.place + other,
             },
-            ..blocked(places)
+            ..ZoneLines::unjudged_under(Line::Blocked, places)
         },
         None => judge_fields(zone, places),
     }
@@ -58,7 +58,7 @@ fn judge_zone(zone: Value<'_>, places: Places) -> ZoneLines
 /// Cases 11 to 20, over a zone with its fields in these places.
 #[inline(always)]
 fn judge_fields(zone: Value<'_>, places: Places) -> ZoneLines
-    requires lawful { Lawful places }
+    requires lawful { LawfulPlaces places }
     requires long { length zone.bytes.now ≡ places.len }
     ensures gates { (result.zone ≡ Pass) × (result.characters ≡ Pass) }
     ensures lines { AreFieldLines places zone.entry.place zone.entry.bytes.now result }
@@ -69,13 +69,13 @@ fn judge_fields(zone: Value<'_>, places: Places) -> ZoneLines
         code: judge_part(zone, places.code, |code| is_code(code, places.passport)),
         issuer: judge_part(zone, places.issuer, is_state),
         name: judge_part(zone, places.name, is_name),
-        number: judge_field(zone, places.number, Field::is_number),
+        number: judge_field(zone, places.number, DigitField::is_number),
         nationality: judge_part(zone, places.nationality, is_state),
-        birth: judge_field(zone, places.birth, Field::is_dated),
+        birth: judge_field(zone, places.birth, DigitField::is_dated),
         sex: Line::judged(is_sex(zone.bytes[places.sex]), zone.place + places.sex),
-        expiry: judge_field(zone, places.expiry, Field::is_dated),
+        expiry: judge_field(zone, places.expiry, DigitField::is_dated),
         optional: match places.optional {
-            Some(optional) => judge_field(zone, optional, Field::is_optional),
+            Some(optional) => judge_field(zone, optional, DigitField::is_optional),
             None => Line::NotApplicable,
         },
         composite: Line::judged(
@@ -89,45 +89,24 @@ fn judge_fields(zone: Value<'_>, places: Places) -> ZoneLines
 fn judge_part<F: Fn(&[u8]) -> bool>(zone: Value<'_>, span: Span, is_right: F) -> Line
     requires within { Within (length zone.bytes.now) span }
     requires callable { F.IsAlwaysCallable is_right }
-    ensures { (holds : Bool) × FnReturnsAt F.Fn is_right (part zone.entry.bytes.now span) holds × (result ≡ line_of holds (zone.entry.place + span.start)) }
+    ensures { (holds : Bool) × FnReturnsAt F.Fn is_right (part zone.entry.bytes.now span) holds
+        × (result ≡ line_of holds (zone.entry.place + span.start)) }
 {
     let holds = is_right(cut(zone.bytes, span));
     Line::judged(holds, zone.place + span.start)
 }
 
 /// The line of a field with a check digit, by a test of both.
-fn judge_field<'a, F: Fn(Field<'a>) -> bool>(zone: Value<'a>, span: Span, is_right: F) -> Line
+fn judge_field<'a, F: Fn(DigitField<'a>) -> bool>(zone: Value<'a>, span: Span, is_right: F) -> Line
     requires checked { Checked (length zone.bytes.now) span }
     requires callable { F.IsAlwaysCallable is_right }
-    ensures { (field : Field) × (holds : Bool) × (field.zone.now ≡ zone.entry.bytes.now) × (field.span ≡ span) × F.post is_right field holds × (result ≡ line_of holds (zone.entry.place + span.start)) }
+    ensures { (field : DigitField) × (holds : Bool) × (field.zone.now ≡ zone.entry.bytes.now)
+        × (field.span ≡ span) × F.post is_right field holds
+        × (result ≡ line_of holds (zone.entry.place + span.start)) }
 {
-    let holds = is_right(Field {
+    let holds = is_right(DigitField {
         zone: zone.bytes,
         span,
     });
     Line::judged(holds, zone.place + span.start)
-}
-
-/// The lines where an earlier case failed: blocked, but for a case 19 that does not apply.
-pub(crate) fn blocked(places: Places) -> ZoneLines
-    ensures { result ≡ blocked_zone_lines places }
-{
-    let optional = match places.optional {
-        Some(_) => Line::Blocked,
-        None => Line::NotApplicable,
-    };
-    ZoneLines {
-        zone: Line::Blocked,
-        characters: Line::Blocked,
-        code: Line::Blocked,
-        issuer: Line::Blocked,
-        name: Line::Blocked,
-        number: Line::Blocked,
-        nationality: Line::Blocked,
-        birth: Line::Blocked,
-        sex: Line::Blocked,
-        expiry: Line::Blocked,
-        optional,
-        composite: Line::Blocked,
-    }
 }

@@ -1,7 +1,7 @@
 //! The three layouts of the zone: how long it is, and where its fields stand. Characters are counted from 0.
 ghost use Rattle.std.specs.Prelude.{◌≡◌};
 ghost use Rattle.zone.specs.declared.layout.Places.{Places};
-ghost use Rattle.zone.specs.Layouts.{td1, td2, td3, Lawful};
+ghost use Rattle.zone.specs.Layouts.{td1, td2, td3, LawfulPlaces};
 
 /// The characters from `start` on, before `end`.
 #[derive(Clone, Copy)]
@@ -51,7 +51,7 @@ pub trait Layout {
     // Each layout has it itself: that its places are lawful is proved where they are known.
     fn spans() -> Places
         ensures same { result ≡ PLACES }
-        ensures lawful { Lawful result };
+        ensures lawful { LawfulPlaces result };
 }
 
 /// Three lines of 30 characters.

@@ -8,4 +8,4 @@ mod layout;
 pub mod lines;
 
 pub use layout::{Cover, Layout, Places, Span, Td1, Td2, Td3};
-pub use lines::{ZoneLines, blocked_lines, zone_lines};
+pub use lines::{ZoneLines, zone_lines};

@@ -2,9 +2,9 @@
 //! The expected output is made by tools/zone_table.py, which has the rules of the zone written a second time.
 #![tactic(auto)]
 
-use card::{Line, Profile};
-use cases::judge_zone;
-use zone::ZoneLines;
+use card::{DG1, Line, Profile};
+use cases::write_verdict;
+use sheet::{Sheet, SheetLine};
 
 /// DG1 with the printed zone of TD1.
 const TD1: &[u8; 95] = b"\x61\x5d\x5f\x1f\x5a\
@@ -38,7 +38,7 @@ fn run(rt: &HostRuntime) -> anyhow::Result<()> {
 fn change_each(rt: &HostRuntime, kind: u8, file: &[u8]) -> anyhow::Result<()> {
     let profile = Profile::new(kind, 0x0003)?;
     print!(rt; "TD{kind} as printed:")?;
-    print_failures(rt, judge_zone(Some(file), profile).own)?;
+    print_failures(rt, file, profile)?;
     // By the index: the row names it, and the character there is replaced.
     for index in ZONE..file.len() {
         for character in CHARACTERS {
@@ -49,15 +49,17 @@ fn change_each(rt: &HostRuntime, kind: u8, file: &[u8]) -> anyhow::Result<()> {
             let position = index - ZONE + 1;
             let shown = char::from(*character);
             print!(rt; "TD{kind} {position} {shown}:")?;
-            print_failures(rt, judge_zone(Some(&changed), profile).own)?;
+            print_failures(rt, &changed, profile)?;
         }
     }
     Ok(())
 }
 
-/// Prints the cases 9 to 20 that fail, each with its place, and ends the line.
-fn print_failures(rt: &HostRuntime, lines: ZoneLines) -> anyhow::Result<()> {
-    for (case, line) in (9..=20).zip(lines.by_case()) {
+/// Prints the cases that fail for these bytes of DG1, each with its place, and ends the line.
+fn print_failures(rt: &HostRuntime, file: &[u8], profile: Profile) -> anyhow::Result<()> {
+    let mut sheet = Sheet::new();
+    write_verdict(&mut sheet, DG1, Some(file), profile);
+    for SheetLine { case, line, .. } in sheet.walk() {
         if let Line::Fail { place } = line {
             print!(rt; " {case} at {place};")?;
         }

@@ -13,4 +13,4 @@ returns-then-is_none c =
 pub loop-preserved : goal.loop-preserved
 loop-preserved c =
     let t = taken _ c.take.result c.if-is_none.ensures c.take.ensures in
-    row_on _ _ c.loop.counter {r = rest_of c.take.new.self} (omega arith) t.1.0.begins c.loop.invariant
+    row_on _ _ c.loop.counter {r = rest_of c.take.new.self} (omega arith) t.1.begins c.loop.invariant

@@ -1,7 +1,6 @@
-use Rattle.std.proofs.Common.{◌+◌, refl, rules}
-use Rattle.object.specs.Objects.{header_size}
+use Rattle.std.proofs.Common.{ap, refl, rules}
 use Rattle.object.specs.Readers.{rest_of}
-use Rattle.faces.specs.declared.entries.FailingEntry.{FailingEntry}
+use Rattle.faces.specs.declared.lines.FaceLines.{FaceLines}
 use Rattle.faces.specs.Faces.{Entry, Described}
 use Rattle.faces.proofs.Rows.{row_all, each_of, fails_at}
 use Rattle.faces.proofs.lines.face_lines.Goals as goal
@@ -15,8 +14,8 @@ check_entries-requires-2-clause-tagged c = row_all _ _ _ c.in-Some.ensures.group
 pub returns-in-Err : goal.returns-in-Err
 returns-in-Err c =
     let f = c.in-Some.ensures in
-    let s = fails_at Entry (λ (e : FailingEntry). e.start) (λ at _. at) (λ at v. refl) (λ v p. search rules) (λ v p. search rules) f.at c.in-Err.ensures in
-    ((f.count, f.inside, rest_of c.in-Some.entries, f.group), (s.0, s.1, refl))
+    let s = fails_at Entry (λ v p. search rules) (λ v p. search rules) f.at c.in-Err.ensures in
+    ((f.count, f.inside, rest_of c.in-Some.entries, f.group), (s.0, (_, s.1, refl), ap (λ (l : FaceLines). l.features) c.unjudged-in-Err.ensures))
 
 pub returns-in-Ok : goal.returns-in-Ok
 returns-in-Ok c =
@@ -26,5 +25,5 @@ returns-in-Ok c =
 pub returns-in-Err-check_entries : goal.returns-in-Err-check_entries
 returns-in-Err-check_entries c =
     let f = c.in-Some.ensures in
-    let s = fails_at Described (λ (e : FailingEntry). e.value) (λ at v. at + header_size 0x7F60 v) (λ at v. refl) (λ v p. search rules) (λ v p. search rules) f.at c.in-Err-check_entries.ensures in
-    ((f.count, f.inside, rest_of c.in-Some.entries, f.group), (each_of (λ v p. search rules) c.in_default-check_entries.ensures, s))
+    let s = fails_at Described (λ v p. search rules) (λ v p. search rules) f.at c.in-Err-check_entries.ensures in
+    ((f.count, f.inside, rest_of c.in-Some.entries, f.group), (each_of (λ v p. search rules) c.in_default-check_entries.ensures, (s.0, (_, s.1, refl))))

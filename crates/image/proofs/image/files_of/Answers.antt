@@ -1,5 +1,5 @@
 use Rattle.std.proofs.Common.{◌≤◌, length, arith}
-use Rattle.image.specs.Images.{Lawful}
+use Rattle.image.specs.Images.{LawfulField}
 use Rattle.image.proofs.Passing.{pass, long, out_of_order, unread, all_passed, gather, gathered}
 use Rattle.image.proofs.image.files_of.Goals as goal
 use Rattle.image.proofs.image.files_of.Goals.{then-field-lowest-via-then-field-lowest, then-field-lowest-via-else-field-lowest+then-field-gt-EF_SOD}
@@ -18,7 +18,7 @@ loop-field-preserved c =
     let f = c.in-Some.field in
     let v = c.loop-field.invariant in
     let h = c.in-Some.ensures.steps in
-    let w : Lawful c.loop-field.lowest f.number f.content.now = record { rises = c.if-field-lowest.false; card = c.if-field-gt-EF_SOD.false; short = h.0 } in
+    let w : LawfulField c.loop-field.lowest f.number f.content.now = record { rises = c.if-field-lowest.false; card = c.if-field-gt-EF_SOD.false; short = h.0 } in
     record {
       can_next = tt;
       ends = tt;

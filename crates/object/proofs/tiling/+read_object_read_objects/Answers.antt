@@ -20,4 +20,6 @@ read_object-returns-in-Nested t c =
     nested c.args.levels c.read_objects.result k refl (omega arith) (rw e at c.read_objects.ensures)
 
 pub read_objects-returns : goal.read_objects-returns
-read_objects-returns t c = c.loop-reader.invariant.tiled (none, tt, all_read c.loop-reader.reader c.loop-reader-test.false)
+read_objects-returns t c =
+    rw (c.at-reader.ensures.position, c.at-reader.ensures.bytes) at
+    (c.loop-reader.invariant.tiled (none, tt, all_read c.loop-reader.reader c.loop-reader-test.false))

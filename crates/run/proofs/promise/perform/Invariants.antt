@@ -1,6 +1,6 @@
 use Rattle.std.proofs.Common.{◌≡◌, ◌≤◌, length, take, drop}
-use Rattle.run.specs.Histories.{Runs, new_run}
-use Rattle.run.specs.Keeping.{moment_of, Kept}
+use Rattle.run.specs.Histories.{basis, new_run, Runs}
+use Rattle.run.specs.Holding.{scene_of, Kept}
 use Rattle.run.specs.Steps.{history, SameCalls}
 use Rattle.run.proofs.promise.perform.Given as goal
 
@@ -8,15 +8,16 @@ use Rattle.run.proofs.promise.perform.Given as goal
 abbrev pub invariant-loop-step : goal.invariant-loop-step
 invariant-loop-step g l =
     let m = g.S.Source in
-    let files = m.files l.initial.run.source in
-    let profile = l.initial.run.profile in
+    let first = l.initial.run in
+    let card = m.files first.source in
     let done = take l.step-index l.initial.steps in
-    (l.step-index ≤ length l.initial.steps)
-    × (length l.steps ≡ length l.initial.steps)
-    × (m.files l.run.source ≡ files)
-    × (l.run.profile ≡ profile)
-    × Kept files profile l.run.sheet
-    × (drop l.step-index l.steps ≡ drop l.step-index l.initial.steps)
-    × SameCalls done (take l.step-index l.steps)
-    × Runs m.lost m.outcomes files profile (new_run (m.lost l.initial.run.source)) l.initial.run.source (history done (take l.step-index l.steps))
-    (moment_of l.run.sheet l.run.closed (m.lost l.run.source)) l.run.source
+    record {
+      few : l.step-index ≤ length l.initial.steps;
+      long : length l.steps ≡ length l.initial.steps;
+      files : m.files l.run.source ≡ card;
+      profile : l.run.profile ≡ first.profile;
+      kept : Kept m.files l.run;
+      waiting : drop l.step-index l.steps ≡ drop l.step-index l.initial.steps;
+      same : SameCalls done (take l.step-index l.steps);
+      runs : Runs (basis m.lost m.outcomes card first.profile) (record { moment = new_run (m.lost first.source); source = first.source }) (history done (take l.step-index l.steps)) (scene_of m.lost l.run);
+    }

@@ -1,20 +1,11 @@
 use Rattle.std.proofs.Common.{◌≡◌, ap, arith, rules}
-use Rattle.source.specs.Whole.{full, last, next}
 use Rattle.source.specs.Outcomes.{all_there, none_left, not_there, refused, brought}
-use Rattle.source.proofs.ReadingOn.{asks, tells, more}
+use Rattle.source.proofs.ReadingOn.{tells, more}
 use Rattle.source.proofs.whole.read_whole.Goals as goal
-
-pub returns-in-Ok-None-clause-reads : goal.returns-in-Ok-None-clause-reads
-returns-in-Ok-None-clause-reads g c = λ _.
-    c.loop-have.invariant.reads _ (last c.loop-have-test.true (asks g.S.Source.steps (cc) (c.in-Ok-None.ensures.steps (search rules))))
 
 pub returns-in-Ok-None-clause-outcome : goal.returns-in-Ok-None-clause-outcome
 returns-in-Ok-None-clause-outcome g c = λ _.
     c.loop-have.invariant.outcome _ _ (not_there c.loop-have-test.true (tells g.S.Source.outcomes (cc) (c.in-Ok-None.ensures.outcomes (search rules)) (cc)))
-
-pub returns-in-Ok-Some-clause-reads : goal.returns-in-Ok-Some-clause-reads
-returns-in-Ok-Some-clause-reads g c = λ _.
-    c.loop-have.invariant.reads _ (last c.loop-have-test.true (asks g.S.Source.steps (cc) (c.in-Ok-Some.ensures.steps (search rules))))
 
 pub returns-in-Ok-Some-clause-outcome : goal.returns-in-Ok-Some-clause-outcome
 returns-in-Ok-Some-clause-outcome g c = λ _.
@@ -28,24 +19,13 @@ loop-have-preserved g c =
     let v = c.loop-have.invariant in
     record {
       files = search rules;
-      so_far = more c.args.file c.min-wanted.result n c.read.new.buffer (ap (λ F. F c.args.file) v.files) v.so_far (omega arith) (cc) h.lasts (omega arith) (search rules);
-      reads = λ t r. v.reads t (next n c.loop-have-test.true (omega arith) (asks g.S.Source.steps (cc) (h.steps (search rules))) r);
-      outcome = λ outcome t r. v.outcome outcome t (brought n c.loop-have-test.true (omega arith) (tells g.S.Source.outcomes (cc) (h.outcomes (search rules)) (cc)) r);
+      so_far = more c.args.file c.min-wanted.result n c.read.new.buffer (ap (λ F. F c.args.file) v.files) v.so_far (omega arith) (cc) h.lasts (omega arith) (search rules) (search rules);
+      outcome = λ answer t r. v.outcome answer t (brought n c.loop-have-test.true (omega arith) (tells g.S.Source.outcomes (cc) (h.outcomes (search rules)) (cc)) r);
     }
-
-pub returns-in-Err-Lost-clause-reads : goal.returns-in-Err-Lost-clause-reads
-returns-in-Err-Lost-clause-reads g c = λ _.
-    c.loop-have.invariant.reads _ (last c.loop-have-test.true (asks g.S.Source.steps (cc) (c.in-Err-Lost.ensures.steps (search rules))))
 
 pub returns-in-Err-Lost-clause-outcome : goal.returns-in-Err-Lost-clause-outcome
 returns-in-Err-Lost-clause-outcome g c = λ _.
     c.loop-have.invariant.outcome _ _ (refused c.in-Err-Lost.loss c.loop-have-test.true (tells g.S.Source.outcomes (cc) (c.in-Err-Lost.ensures.outcomes (search rules)) (cc)))
-
-pub returns-clause-reads : goal.returns-clause-reads
-returns-clause-reads g c = λ _.
-    let few = c.loop-have.invariant.so_far.few in
-    let all : c.loop-have.have ≡ 32767 = omega arith in
-    c.loop-have.invariant.reads _ (rw all full)
 
 pub returns-clause-outcome : goal.returns-clause-outcome
 returns-clause-outcome g c = λ _.

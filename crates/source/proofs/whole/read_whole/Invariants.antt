@@ -1,7 +1,6 @@
-use Rattle.std.proofs.Common.{◌≡◌, ℕ, ◌-◌, Option, Result}
-use Rattle.source.specs.Whole.{ReadsOn}
-use Rattle.source.specs.Outcomes.{ReadsWhole}
-use Rattle.source.specs.declared.whole.WholeRefusal.{WholeRefusal}
+use Rattle.std.proofs.Common.{◌≡◌, ◌-◌}
+use Rattle.source.specs.Whole.{WholeAnswer}
+use Rattle.source.specs.Outcomes.{next_read, ReadsOn, ReadsWhole}
 use Rattle.source.proofs.ReadingOn.{SoFar}
 use Rattle.source.proofs.whole.read_whole.Given as goal
 
@@ -11,8 +10,8 @@ invariant-loop-have g l =
     record {
       files : m.files l.source ≡ m.files l.initial.source;
       so_far : SoFar (m.files l.initial.source l.file) (m.lost l.initial.source) (m.lost l.source) l.have l.initial.buffer l.buffer;
-      reads : (t : g.row.S.Denot) → ReadsOn m.steps l.file l.have l.source t → ReadsOn m.steps l.file 0 l.initial.source t;
-      outcome : (outcome : Result (Option ℕ) WholeRefusal) (t : g.row.S.Denot) → ReadsWhole m.outcomes l.file l.have l.source outcome t → ReadsWhole m.outcomes l.file 0 l.initial.source outcome t;
+      outcome : (answer : WholeAnswer) (t : g.row.S.Denot) → ReadsOn (λ have s answer t. m.outcomes s (next_read l.file have) answer t) l.have l.source answer t
+          → ReadsWhole m.outcomes l.file l.initial.source answer t;
     }
 
 abbrev pub decreases-loop-have : goal.decreases-loop-have

@@ -1,5 +1,5 @@
 use Rattle.std.proofs.Common.{◌≡◌, false, rules}
-use Rattle.source.specs.Reads.{Brings}
+use Rattle.source.specs.Reads.{request, Brings}
 use Rattle.changed.specs.Changes.{removed}
 use Rattle.changed.proofs.Laying.{laid_brings}
 use Rattle.changed.proofs.changed.ChangedSource.read.Goals as goal
@@ -13,5 +13,6 @@ returns-in-Some-clause-reads g c =
     let mid = c.read-2.new.buffer in
     let below = g.S.Source.files s.below file in
     let stays : removed cs file ≡ false = search rules in
-    let brings : Brings below c.args.place c.args.wanted n c.args.buffer.now mid = search rules in
-    (search rules, search rules, laid_brings cs below file c.args.place c.args.wanted n c.args.buffer.now mid _ stays brings (search rules))
+    let asked = request file c.args.place c.args.wanted in
+    let brings : Brings below asked n c.args.buffer.now mid = search rules in
+    (search rules, laid_brings cs below asked n c.args.buffer.now mid _ stays brings (search rules))

@@ -5,6 +5,6 @@ use Rattle.sheet.proofs.sheet.Sheet.new.Goals as goal
 
 pub returns : goal.returns
 returns c = record {
-  lines = λ case file h. get_or-replicate 75 _ Open Open (within case file h);
+  lines = λ case file h. get_or-replicate _ _ Open Open (within case file h);
   judged = c.empty.ensures;
 }

@@ -1,8 +1,15 @@
-//! Judges the image in a file: sheet KIND SET IMAGE. Prints the lines that fail and the counts.
-use std::{env, fs, process};
+//! Judges the image in a file: sheet KIND SET IMAGE, as in `sheet 3 0003 card.image`; the set is hexadecimal.
+//! Prints the lines that fail and the counts. Exits with 0 for a clean card, with 1 for one that is not clean or is
+//! refused, and with 2 where it cannot ask.
+use std::process::ExitCode;
+use std::{env, fs};
 
+// As in include/suhluva.h.
 const LINES: usize = 75;
+const LARGEST_IMAGE: usize = 589_860;
 const FAIL: u8 = 2;
+const DONE: u32 = 0;
+const MALFORMED_IMAGE: u32 = 8;
 
 #[repr(C)]
 #[derive(Default)]
@@ -37,7 +44,7 @@ fn sheet(kind: u8, declared: u16, image: &[u8]) -> Result<([(u8, u64); LINES], C
     let (mut counts, mut position) = (Counts::default(), 0);
     // SAFETY: the pointer and the length are those of a slice that lives through the call.
     let refusal = unsafe { suhluva_check_image(image.as_ptr(), image.len(), &mut position) };
-    if refusal != 0 {
+    if refusal != DONE {
         return Err((refusal, position));
     }
     // SAFETY: as above; what is written are different variables.
@@ -53,7 +60,7 @@ fn sheet(kind: u8, declared: u16, image: &[u8]) -> Result<([(u8, u64); LINES], C
             &mut position,
         )
     };
-    if refusal != 0 {
+    if refusal != DONE {
         return Err((refusal, position));
     }
     Ok((std::array::from_fn(|line| (states[line], places[line])), counts))
@@ -64,21 +71,42 @@ fn name_of(index: u32) -> Option<(u8, u8)> {
     let (mut case, mut file) = (0, 0);
     // SAFETY: two variables that live through the call.
     let refusal = unsafe { suhluva_line(index, &mut case, &mut file) };
-    (refusal == 0).then_some((case, file))
+    (refusal == DONE).then_some((case, file))
 }
 
-fn main() {
+fn usage() -> ExitCode {
+    eprintln!("usage: sheet KIND SET IMAGE");
+    ExitCode::from(2)
+}
+
+fn main() -> ExitCode {
     let arguments: Vec<String> = env::args().collect();
     let [_, kind, set, path] = arguments.as_slice() else {
-        eprintln!("usage: sheet KIND SET IMAGE");
-        process::exit(2);
+        return usage();
     };
-    let kind = kind.parse().expect("a kind");
-    let declared = u16::from_str_radix(set, 16).expect("a set in hexadecimal");
-    let image = fs::read(path).expect("an image");
+    let (Ok(kind), Ok(declared)) = (kind.parse(), u16::from_str_radix(set, 16)) else {
+        return usage();
+    };
+    let image = match fs::read(path) {
+        Ok(image) => image,
+        Err(error) => {
+            eprintln!("{path}: {error}");
+            return ExitCode::from(2);
+        }
+    };
+    if image.len() > LARGEST_IMAGE {
+        eprintln!("more bytes than an image has");
+        return ExitCode::from(2);
+    }
     match sheet(kind, declared, &image) {
-        Err((8, position)) => println!("refusal 8 at {position}"),
-        Err((refusal, _)) => println!("refusal {refusal}"),
+        Err((MALFORMED_IMAGE, position)) => {
+            println!("refusal {MALFORMED_IMAGE} at {position}");
+            ExitCode::from(1)
+        }
+        Err((refusal, _)) => {
+            println!("refusal {refusal}");
+            ExitCode::from(1)
+        }
         Ok((lines, counts)) => {
             for (index, (state, place)) in (0..).zip(lines) {
                 if state == FAIL && let Some((case, file)) = name_of(index) {
@@ -88,6 +116,7 @@ fn main() {
             let word = if counts.fail == 0 { "clean" } else { "not clean" };
             let Counts { pass, fail, not_applicable, blocked } = counts;
             println!("{word}: {pass} pass, {fail} fail, {not_applicable} not applicable, {blocked} blocked");
+            ExitCode::from(if fail == 0 { 0 } else { 1 })
         }
     }
 }

@@ -76,8 +76,7 @@ for path, pattern in (
     ("docs/ARCHITECTURE.md", r"table of (\d+) lines"),
     ("docs/DEFINITIONS.md", r"do not add up to (\d+)"),
     ("docs/DEFINITIONS.md", r"the (\d+) pairs"),
-    ("README.md", r"(\d+) lines by case and file"),
-    ("README.md", r"arrays of (\d+)"),
+    ("README.md", r"gives (\d+)\s+lines"),
     ("crates/sheet/src/lib.rt", r"table of (\d+) lines"),
     ("crates/c_api/src/lib.rt", r"each of the (\d+) lines"),
 ):
@@ -87,7 +86,7 @@ for path, pattern in (
 last = max(case for _, case in own)
 for path, pattern in (
     ("docs/RULES.md", r"## 7\. Cases 1 to (\d+)"),
-    ("README.md", r"Cases 1 to (\d+)\."),
+    ("crates/suhluva/src/asks.rt", r"CASES: usize = (\d+);"),
 ):
     expect(f"{path}, the last case", last, number(path, pattern))
 for size in map(int, re.findall(r"u64; \d\]; (\d+)\]", read("bench/src/tally.rs"))):
@@ -96,8 +95,39 @@ for size in map(int, re.findall(r"u64; \d\]; (\d+)\]", read("bench/src/tally.rs"
 # Their order, in words.
 for path in ("include/suhluva.h", "bench/src/reference.rs"):
     expect_text(path, "then cases " + listed([f"{cases} of file {file}" for file, cases in ranges]))
-for path in ("docs/RULES.md", "docs/DECISIONS.md"):
-    expect_text(path, "then cases " + listed([cases for _, cases in ranges]))
+expect_text("docs/DECISIONS.md", "then cases " + listed([cases for _, cases in ranges]))
+
+# Their order in the arrays, in the rules: a row for the cases that every file has, and one for each row of the table.
+indices, at = [f"| {span(0, shared * files - 1)} | index mod {shared} + 1 | index div {shared} |"], shared * files
+for file, first, count in rows:
+    indices.append(f"| {span(at, at + count - 1)} | {span(first, first + count - 1)} | {file} |")
+    at += count
+found = re.search(r"\| index \| case \| file \|\n\|[-|]*\n((?:\|.*\n)*)", read("docs/RULES.md"))
+expect("docs/RULES.md, the order of the lines", indices, found.group(1).splitlines() if found else [])
+
+# The header's two lists: which cases stand at which indices, and what each case asks for, under the file that has it.
+header = read("include/suhluva.h")
+table, at = [(span(0, shared * files - 1), span(1, shared), "0")], shared * files
+for file, first, count in rows:
+    table.append((span(at, at + count - 1), span(first, first + count - 1), str(file)))
+    at += count
+row = r"(?m)^ \* +(\d+(?: to \d+)?) {2,}(\d+(?: to \d+)?) {2,}file (\d+)\b"
+expect("include/suhluva.h, the table of indices", table, re.findall(row, header))
+of, told = None, []
+for line in header.split("What each case asks for")[-1].splitlines():
+    if heading := re.match(r" \* \S.*, file (\d+):$", line):
+        of = int(heading.group(1))
+    elif case := re.match(r" \* {5,}(\d+)  \S", line):
+        told.append((of, int(case.group(1))))
+expect("include/suhluva.h, what each case asks for", [(None, case) for case in range(1, shared + 1)] + own, told)
+
+# The largest image: a field of three bytes and the longest file, for each file.
+longest = number("crates/card/src/files.rt", r"LONGEST: u16 = (\d+);")
+for path, pattern in (
+    ("include/suhluva.h", r"#define SUHLUVA_LARGEST_IMAGE (\d+)"),
+    ("examples/sheet.rs", r"LARGEST_IMAGE: usize = (\d+_\d+);"),
+):
+    expect(f"{path}, the largest image", files * (3 + longest), number(path, pattern))
 
 # The table of lines in the rules: a row for each file with cases of its own, one for each run of files without.
 table, counts, file = [], [], 0
@@ -127,9 +157,26 @@ theirs = [(names[name], line - int(off)) for at, end, name, off in arms for line
 expect("bench/src/reference.rs, file_and_case", own, theirs)
 
 # The refusals.
-constants = sorted(map(int, re.findall(r"pub const \w+: u8 = (\d+);", read("crates/card/src/number.rt"))))
+refusals = {name: int(value) for name, value in re.findall(r"pub const (\w+): u8 = (\d+);", read("crates/card/src/number.rt"))}
+constants = sorted(refusals.values())
 section = read("docs/RULES.md").split("## 10. Refusals")[1].split("\n\n")[1]
 expect("docs/RULES.md, the numbers of the refusals", constants, [int(n) for n in re.findall(r"(?m)^\| (\d+) \|", section)])
+
+# Those that the header names.
+answers = re.findall(r"SUHLUVA_(\w+) = (\d+)", header.split("What a call answers")[-1])
+values = [(name, str({"DONE": 0, **refusals}.get(name))) for name, _ in answers]
+expect("include/suhluva.h, what a call answers", values or ["DONE"], answers)
+
+# The words of the main program's script: as its help lists them, as it reads them, and as the page tells them. So the sample cards.
+script = read("crates/suhluva/src/word.rt")
+forms = re.findall(r'(?m)^    "(\w+)\b[^"]*",$', script.split("FORMS")[1].split("];")[0])
+read_as = list(dict.fromkeys(re.findall(r'(?m)^ +\["(\w+)"', script)))
+expect("crates/suhluva/src/word.rt, the words that are read", sorted(forms), sorted(read_as))
+expect("docs/SCRIPT.md, the words", forms, re.findall(r"(?m)^\| `(\w+)` \|", read("docs/SCRIPT.md")))
+cards = re.findall(r'(?m)^ +"(\w+)" => Ok\(', script.split("fn sample")[1].split("\n}")[0])
+expect("crates/suhluva/src/word.rt, the sample cards", cards, re.search(r'"card ([\w|]+),', script).group(1).split("|"))
+told = re.search(r"\| `card` \| (.*?) \|", read("docs/SCRIPT.md")).group(1)
+expect("docs/SCRIPT.md, the sample cards", cards, re.findall(r"`(\w+)`", told))
 
 for one in wrong:
     print(one)

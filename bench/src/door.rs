@@ -5,7 +5,7 @@
 
 use crate::reference::{LINES, Line, Refusal, Sheet};
 
-/// How many lines pass, fail, are not applicable and are blocked.
+/// The lines of a sheet counted by their state.
 #[repr(C)]
 #[derive(Clone, Copy, Default)]
 struct Counts {

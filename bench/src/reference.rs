@@ -88,7 +88,7 @@ pub fn file_and_case(line: usize) -> (usize, usize) {
     }
 }
 
-/// Checks that an image is well-formed; if not, the position of the first field that breaks.
+/// Checks that an image is well-formed; if not, the position at which its first broken field starts.
 pub fn check_image(image: &[u8]) -> Result<(), u32> {
     files_of(image).map(|_| ())
 }

@@ -14,7 +14,7 @@ use image::{Image, ImageRefusal, files_of};
 use sheet::{LINES, Sheet, Tally, line_at};
 
 // C's own struct of the counts: `Tally` has bytes, and no layout that C knows.
-/// How many lines pass, fail, are not applicable and are blocked.
+/// The lines of a sheet counted by their state.
 #[repr(C)]
 #[derive(Clone, Copy, Debug)]
 pub struct Counts {
@@ -39,7 +39,7 @@ impl From<Tally> for Counts {
 
 // The calls below answer numbers and not enums, since C does.
 
-/// Checks an image: 0, or 8 with the start of the first field that breaks in `position`.
+/// Checks an image: 0, or 8, and then `position` is where its first broken field starts.
 #[unsafe(no_mangle)]
 pub extern "C" fn suhluva_check_image(image: &[u8], position: &mut u64) -> u32
     ensures { let told : Position = record { before = position.old; after = position.new } in

@@ -1,5 +1,4 @@
--- A card: eighteen files by number, each absent or a string of bytes. File 0 is EF.COM, files 1 to 16 are DG1 to DG16,
--- file 17 is EF.SOD.
+-- A card: its files by number, EF.COM first (0), then the sixteen data groups, EF.SOD last (17); any may be missing.
 use Rattle.std.specs.Prelude.{ℕ, ◌≤◌, List, [], ◌∷◌, length, Some, None, Option, slice_index, slice_index_or}
 use Rattle.std.specs.Borrow.{Bor}
 use Rattle.std.specs.Option.{option_map}
@@ -8,7 +7,7 @@ use Rattle.std.specs.Option.{option_map}
 abbrev pub Files : Type 0
 Files = ℕ → Option (List ℕ)
 
--- a file that is there has at most 32,767 bytes
+-- a file that is there is no longer than 32,767 bytes
 abbrev pub Short : Option (List ℕ) → Type 0
 Short None = Unit {0}
 Short (Some bs) = length bs ≤ 32767

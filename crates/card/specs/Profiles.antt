@@ -7,7 +7,7 @@ use Rattle.card.specs.declared.profile.Kind.{Kind}
 use Rattle.card.specs.declared.profile.Kind.TheVariants.{Td1, Td2, Td3}
 use Rattle.card.specs.declared.profile.Profile.{Profile}
 
--- the number of its kind of zone, 1 to 3 for TD1 to TD3, and its declared set, whose bit 0 is DG1
+-- the number of its kind of zone, and its declared set, in which DG1 has the lowest bit
 abbrev pub kind_number : Profile → ℕ
 kind_number profile = profile.kind
 

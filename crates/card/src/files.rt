@@ -1,4 +1,4 @@
-//! The files of a card by number: 0 is EF.COM, 1 to 16 are DG1 to DG16, 17 is EF.SOD.
+//! The files of a card by number: EF.COM has 0, each data group its own number from 1 to 16, EF.SOD 17.
 //! A file goes by its number, and not by an enum: an image writes the number, and whoever asks for one may ask for any.
 //! Nothing here looks into a file.
 ghost use Rattle.std.specs.Prelude.{◌≡◌, ◌<◌, ◌≤◌, length, MatchOption};

@@ -21,7 +21,7 @@ pub enum Kind {
     Td3,
 }
 
-/// A kind of machine readable zone, 1 to 3 for TD1 to TD3, and the data groups that the card is declared to have.
+/// The number of a kind of machine readable zone, and the data groups that the card is declared to have.
 // Plain numbers: that the profile is lawful is an invariant over them. `zone_kind` has the kind by its name.
 #[derive(Clone, Copy, Debug, PartialEq, Eq)]
 pub struct Profile {
@@ -37,7 +37,7 @@ impl Profile {
     ghost use Rattle.card.specs.declared.refusal.ProfileRefusal.TheVariants.{Unlawful};
     ghost use Rattle.card.specs.Profiles.{IsProfileOf, kind_number, declared_set, kind_of, required};
 
-    /// The profile of a kind and a declared set, whose bit 0 is DG1 and bit 15 is DG16.
+    /// The profile of a kind and a declared set, which has a bit for each data group, the lowest for DG1.
     pub fn new(kind: u8, declared: u16) -> Result<Profile, ProfileRefusal>
         ensures made { MatchResult result (IsProfileOf kind declared)
             (λ refusal. Unless 1 (LawfulProfile kind declared) no_other (of_profile refusal)) }
@@ -49,7 +49,7 @@ impl Profile {
         Ok(Profile { kind, declared })
     }
 
-    /// The kind of zone, 1 to 3 for TD1 to TD3.
+    /// The number of its kind of zone: TD1 has 1, TD2 has 2, TD3 has 3.
     pub fn kind(self) -> u8
         ensures { result ≡ kind_number self }
     {
@@ -67,7 +67,7 @@ impl Profile {
         }
     }
 
-    /// The declared set: bit 0 is DG1, bit 15 is DG16.
+    /// The declared set: the lowest bit is that of DG1, the highest that of DG16.
     pub fn declared(self) -> u16
         ensures { result ≡ declared_set self }
     {

@@ -8,7 +8,7 @@ use thiserror::Error;
 
 /// A refusal with a number, by which whoever compares two sheets knows it.
 pub trait Numbered {
-    /// Which number and values belong to it.
+    /// Its number and the values that come with it.
     ghost refusal: { Self → Refusal };
 
     /// The refusal's number.

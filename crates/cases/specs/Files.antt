@@ -45,7 +45,7 @@ face_cases faces = record {
   unjudged = λ line. faces ≡ faces_unjudged line;
 }
 
--- case 24 of EF.SOD: it holds exactly one object 30; the place is the value's first byte
+-- case 24 of EF.SOD: the template's value is one object 30 and nothing more, else the case fails at its start
 abbrev pub security_cases : Line → Later
 security_cases single = record {
   judged = λ place value. Says single (One 0x30 value) (λ at. at ≡ place);

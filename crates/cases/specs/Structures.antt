@@ -18,7 +18,7 @@ pub record Later : Type 1 where
   pub judged : ℕ → List ℕ → Type 0
   pub unjudged : Line → Type 0
 
--- Cases 2 and 3 of a file that is required and there.
+-- What cases 2 and 3 say of a required file that is there.
 abbrev pub Framed : ℕ → List ℕ → Structure → Later → Type 0
 Framed tag bytes lines later =
     Gates lines.template (One tag bytes) (Off tag bytes)

@@ -1,5 +1,5 @@
--- What a change does to the files, in the order in which changes come: the last change of a place counts, and a removed
--- file stays absent whatever comes after. And what a changed source is, over the source below it.
+-- What a change does to the files, in the order in which changes come: a later setting of a place replaces an earlier
+-- one, and nothing brings a removed file back. And what a changed source is, over the source below it.
 use Rattle.std.specs.Prelude.{◌≡◌, ℕ, ◌<◌, ◌≤◌, Bool, if◌then◌else◌, List, length, None, Ok, Err, ◌==◌, slice_set, ⊤}
 use Rattle.std.specs.Option.{option_map}
 use Rattle.card.specs.Cards.{Files, Short}
@@ -68,7 +68,7 @@ changes_of s = s.changes.items
 abbrev pub change_count : {S : Type 0} → Changed S → ℕ
 change_count s = length (changes_of s)
 
--- its files: those of the source below with the changes laid on, none of which is too long
+-- its files: what the changes make of the files of the source below; none of them is too long
 abbrev pub changed_files : {S : Type 0} → (S → Files) → Changed S → Files
 changed_files files s = laid_on (changes_of s) (files (below_of s))
 

@@ -13,9 +13,9 @@ use thiserror::Error;
 /// A change of a card's files.
 #[derive(Clone, Copy, Debug, PartialEq, Eq)]
 pub enum Change {
-    /// The file is removed for good.
+    /// The file is taken away, for good.
     Remove { file: u8 },
-    /// The byte at a place of the file is set.
+    /// A byte of the file gets this value.
     Set { file: u8, place: u16, byte: u8 },
 }
 

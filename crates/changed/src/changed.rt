@@ -1,4 +1,4 @@
-//! The changed source: its files are those of the source below with the changes laid on, one after the other.
+//! The changed source: what a row of changes, one after the other, makes of the files of a source below.
 //! It asks below for whatever it is asked for itself, also of a file that is removed.
 ghost use Rattle.std.specs.Prelude.{◌≡◌, ◌+◌, [], IfErr, OnErr, OnOk};
 ghost use Rattle.changed.specs.Changes.{AddsChange, removed, with_settings};
@@ -55,7 +55,7 @@ impl<S: Source> Changed<S> {
         self.add(Change::Remove { file })
     }
 
-    /// Sets the byte at a place of a file; at or past the file's end, or in an absent file, that does nothing.
+    /// Sets the byte at a place of a file, if the file has this place; it makes no file, and none longer.
     pub fn set(&mut self, file: u8, place: u16, byte: u8) -> Result<(), ChangeRefusal>
         ensures sets { Sets (setting file place byte) (change_count self.old)
             (changed_files S.files self.old) (changed_files S.files self.new) result }

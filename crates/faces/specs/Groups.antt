@@ -9,8 +9,8 @@ use Rattle.faces.specs.Rows.{Row}
 abbrev pub IsCount : List ℕ → ℕ → Type 0
 IsCount value count = (1 ≤ count) × (count ≤ 9) × (count ∷ [] ≡ value)
 
--- The template's value is one object 7F61, the group. In it stand one object 02, whose value is a count from 1 to 9 in
--- one byte, and then as many objects 7F60, the entries.
+-- The template's value is one object 7F61, the group. In it stand one object 02, whose one byte is the count, from 1 to
+-- 9, and then as many objects 7F60, the entries.
 pub record Group (value : List ℕ) (count : ℕ) (group entries : List ℕ) : Type 0 where
   pub some : 1 ≤ count
   pub few : count ≤ 9

@@ -40,7 +40,7 @@ pub data Has : List ℕ → ℕ → List ℕ → Type 0 where
   later : {bytes : List ℕ} {tag : ℕ} {value : List ℕ} (other : ℕ) (content rest : List ℕ)
       → Begins bytes other content rest → Has rest tag value → Has bytes tag value
 
--- The features of a header: objects from the list, in rising order of tags, so that none stands twice. Among them are 87,
+-- The features of a header: objects from the list, each with a greater tag than the one before it. Among them are 87,
 -- the owner, with the value 0101, and 88, the format, with the value 0008.
 pub record LawfulFeatures (bytes : List ℕ) : Type 0 where
   pub rising : RisingFeatures feature_list 0 bytes

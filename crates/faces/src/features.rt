@@ -1,5 +1,5 @@
-//! The features of a face, which stand in its entry's header: plain objects from a list, in rising order of tags, with
-//! the owner and the format of the face block among them.
+//! The features of a face, which stand in its entry's header: objects that a list allows, each with a greater tag than
+//! the one before it. The owner and the format of the face block are among them.
 ghost use Rattle.std.specs.Prelude.{◌↔◌, IsTrue};
 ghost use Rattle.object.specs.Readers.{rest_of};
 ghost use Rattle.faces.specs.Rising.{feature_list, Allows, Listed, RisingFeatures, Has, LawfulFeatures};

@@ -107,7 +107,7 @@ no_break lowest p q xs (f ∷ fs) r e (later k bs rest w d b) =
     let s = same_field f.number k f.content bs (row_of fs) rest (e ∙ sym d) in
     no_break (k + 1) (p + 3 + length bs) q rest fs (subst (λ j. RisingFields (j + 1) fs) s.0 r.1) s.2 b
 
--- there is at most one first field that breaks
+-- there is at most one first broken field
 pub one_break : (lowest p q q' : ℕ) (xs : List ℕ) → Breaks lowest p xs q → Breaks lowest p xs q' → q ≡ q'
 one_break lowest p q q' xs (here h n) (here h' n') = refl
 one_break lowest p q q' xs (here h n) (later k bs rest w d b) = absurd (n k bs rest w d)

@@ -26,7 +26,7 @@ pub record ImageOf (bytes : List ℕ) (files : Files) : Type 0 where
   pub same_bytes : (other : List ℕ) (gs : List ImageField) → IsImage other gs
       → ((number : ℕ) → file_of gs number ≡ files number) → other ≡ bytes
 
--- the bytes are no image, and the first field that breaks starts here and nowhere else
+-- the bytes are no image, and its first broken field starts here and nowhere else
 pub record BrokenAt (bytes : List ℕ) (place : ℕ) : Type 0 where
   pub breaks : Breaks 0 0 bytes place
   pub nowhere_else : (other : ℕ) → Breaks 0 0 bytes other → other ≡ place

@@ -51,8 +51,8 @@ abbrev pub UsesCommand : Chip → Chip → Type 0
 UsesCommand s t =
     (t.image ≡ s.image) × (span_of t ≡ span_of s) × (commands_of t ≡ commands_of s - 1)
 
--- A read uses a command. The link is lost once none is left, and the limit is the smaller of the span and what the read
--- wants.
+-- A read takes a command where there is one, and is refused where there is none. The limit is the smaller of the span,
+-- 0 taken as 1, and what the read wants.
 abbrev pub ChipReads : Chip → Request → Answer → Chip → Type 0
 ChipReads s asked answer t =
     let most = min (max (span_of s) 1) asked.wanted in

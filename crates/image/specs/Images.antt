@@ -1,5 +1,6 @@
--- What an image means: a row of fields, each a file's number, its length in two bytes, high byte first, and the file.
--- It is said by writing. The one reading, `fields_after`, is tied to the writing by what checking an image promises.
+-- What an image means: fields in a row, each of three bytes, which are a file's number and its length (the high byte
+-- before the low), and of the file. It is said by writing. The one reading, `fields_after`, is tied to the writing by
+-- what checking an image promises.
 use Rattle.std.specs.Prelude.{◌≡◌, ℕ, zero, suc, ◌+◌, ◌*◌, ◌/◌, ◌%◌, ◌<◌, ◌≤◌, Bool, true, false, ◌&&◌, if◌then◌else◌, List, [], ◌∷◌, ◌++◌, length, take, Some, None, Option, ◌==◌, ◌≢◌, nat_le, refl}
 use Rattle.std.proofs.Common.{length-take, leb-true, sym, subst}
 use Rattle.std.proofs.Math.Nat.{le_trans, min-le_left}

@@ -9,7 +9,7 @@ use source::{Fault, Loss, Source, well_formed};
 /// The smallest span: a chip gives at least so many bytes of those that are left.
 const LEAST_SPAN: u8 = 1;
 
-/// An image behind a link: a read gives at most `span` bytes and uses a command, and the link is lost when none is left.
+/// An image behind a link: a read takes a command and brings at most `span` bytes (1 for 0). With no command the link is lost.
 #[derive(Clone, Copy)]
 pub struct Chip<'a> {
     image: Image<'a>,
@@ -18,7 +18,7 @@ pub struct Chip<'a> {
 }
 
 impl<'a> Chip<'a> {
-    /// A chip with the files of an image, a span of which 0 counts as 1, and a number of commands.
+    /// A chip over an image. A span of 0 is taken as 1; a chip that is given no command has a lost link from the start.
     pub fn new(image: Image<'a>, span: u8, commands: u32) -> Chip<'a>
         ensures files { chip_files result ≡ image_files image.entry }
         ensures span { span_of result ≡ span }

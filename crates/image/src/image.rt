@@ -1,4 +1,4 @@
-//! The image: a card's files in memory, as a row of fields: a file's number, its length in two bytes, and the file.
+//! The image: a card's files in memory, field after field: three bytes for a file's number and length, and the file.
 //! The link to them is never lost.
 ghost use Rattle.std.specs.Prelude.{◌≡◌, ◌<◌, ◌≤◌, ◌++◌, false, length, take, drop, MatchResult};
 ghost use Rattle.std.specs.Option.{option_map};
@@ -57,7 +57,7 @@ impl<'a> Iterator for Fields<'a> {
 /// Why bytes are no image.
 #[derive(Clone, Copy, Debug, PartialEq, Eq, Error)]
 pub enum ImageRefusal {
-    /// The first field that breaks starts here.
+    /// Its first broken field starts here.
     #[error("refusal {n}: the field at {position} breaks", n = MALFORMED_IMAGE)]
     Malformed { position: usize },
 }
@@ -89,7 +89,7 @@ impl<'a> TryFrom<&'a [u8]> for Image<'a> {
     }
 }
 
-/// The files of the image that the bytes are, or where the first field that breaks starts; in one pass over the fields.
+/// The files of the image that the bytes are, or where its first broken field starts; in one pass over the fields.
 pub fn files_of(bytes: &[u8]) -> Result<CardFiles<'_>, ImageRefusal>
     ensures { MatchResult result (λ files. ImageOf bytes.now (files_at files.by_number))
         (λ refusal. Refuses bytes.now refusal) }
@@ -112,7 +112,7 @@ pub fn files_of(bytes: &[u8]) -> Result<CardFiles<'_>, ImageRefusal>
 }
 
 impl<'a> Image<'a> {
-    /// The image that the bytes are, or where the first field that breaks starts: `try_from` by the word of the rules.
+    /// The image that the bytes are, or where its first broken field starts: `try_from` by the word of the rules.
     pub fn check(bytes: &'a [u8]) -> Result<Image<'a>, ImageRefusal>
         ensures { Checks bytes.now result }
     {

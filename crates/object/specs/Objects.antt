@@ -1,13 +1,13 @@
--- Objects as they are written: a tag, a length in its shortest form, and a value.
+-- How an object is written: its tag, its length in as few bytes as can be, and its value.
 use Rattle.std.specs.Prelude.{◌≡◌, ℕ, ◌+◌, ◌/◌, ◌%◌, ◌<◌, Bool, if◌then◌else◌, ◌⊎◌, List, [], ◌∷◌, ◌++◌, length, ◌==◌, nat_lt}
 
--- a tag of one byte: not 00, and its low five bits are not all ones
+-- a tag of one byte: neither 00 nor one that ends in 11111 (binary)
 pub record ShortTag (tag : ℕ) : Type 0 where
   pub positive : 0 < tag
   pub small : tag < 256
   pub low : tag % 32 ≡ 31 → ⊥
 
--- a tag of two bytes: the low five bits of the first are all ones, and the second is 00 to 7F
+-- a tag of two bytes: the first ends in 11111 (binary), and the second is below 80 (hexadecimal)
 pub record LongTag (tag : ℕ) : Type 0 where
   pub small : tag < 65536
   pub low : tag / 256 % 32 ≡ 31
@@ -20,13 +20,13 @@ LawfulTag tag = ShortTag tag ⊎ LongTag tag
 abbrev pub tag_bytes : ℕ → List ℕ
 tag_bytes tag = if nat_lt tag 256 then tag ∷ [] else tag / 256 ∷ tag % 256 ∷ []
 
--- the bytes of a length in its shortest form: 00 to 7F alone, 81 before 80 to FF, 82 before 0100 to FFFF
+-- the bytes of a length, as few as can be: below 80 (hexadecimal) one, below 100 the byte 81 and one, else 82 and two
 abbrev pub length_bytes : ℕ → List ℕ
 length_bytes n =
     if nat_lt n 0x80 then n ∷ []
     else (if nat_lt n 256 then 0x81 ∷ n ∷ [] else 0x82 ∷ n / 256 ∷ n % 256 ∷ [])
 
--- an object is nested if the first byte of its tag has the bit 20 (hexadecimal), and plain otherwise
+-- whether an object is nested or plain is told by the bit 20 (hexadecimal) of the first byte of its tag
 unfoldable pub nests : ℕ → Bool
 nests tag = (if nat_lt tag 256 then tag else tag / 256) / 32 % 2 == 1
 

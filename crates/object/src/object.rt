@@ -1,4 +1,4 @@
-//! An object, plain or nested. Its value is a part of the file; the value's place in the file goes with it.
+//! An object, of one of two sorts: its tag, its value as it stands in the file, and where that starts.
 ghost use Rattle.std.specs.Prelude.{◌≡◌};
 ghost use Rattle.object.specs.Readers.{tag, place, value};
 
@@ -11,7 +11,7 @@ pub enum Object<'a> {
         place: usize,
         value: &'a [u8],
     },
-    /// Its value is tiled by objects in turn.
+    /// Its value should be a row of objects; `tile` tells whether it is.
     Nested {
         tag: u16,
         place: usize,

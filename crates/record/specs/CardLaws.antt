@@ -20,7 +20,7 @@ AllShort files = (file : ℕ) → file ≤ 17 → Short (files file)
 abbrev pub CleanCard : CardLines → Type 0
 CleanCard lines = (case file : ℕ) → HasLine case file → Clean (lines case file)
 
--- the cards differ in DG1 alone, in which one digit at a checked place of the zone of this kind is put for another
+-- the cards differ in DG1 alone, and there in one digit of the zone of this kind, which stands at a checked place
 pub record CardChanged (kind : Kind) (files changed : Files) : Type 0 where
   pub others : (file : ℕ) → file ≤ 17 → (file ≢ 1) → changed file ≡ files file
   pub before : List ℕ
@@ -31,12 +31,12 @@ pub record CardChanged (kind : Kind) (files changed : Files) : Type 0 where
 
 -- for all files and all profiles
 pub record CardLaws : Type 0 where
-  -- no line fails exactly when a record of the profile writes the files
+  -- if some record of the profile writes the files, no line fails; if none does, a line fails
   pub clean_exactly_when_written :
       (profile : Profile) (files : Files) → AllShort files
       → (lines : CardLines) → CardGives profile files lines
       → Iff (CleanCard lines) (WrittenUnder profile files)
-  -- two records, of whatever profiles, that write the same files are equal
+  -- records that write the same files are the same, in the profile too
   pub written_by_one_record_only :
       (r other : Record) (files : Files) → WritesCard r files → WritesCard other files → r ≡ other
   -- where a record writes the files, some line of the files with a changed digit fails, under any profile

@@ -6,8 +6,8 @@ use Rattle.object.specs.Objects.{Begins, header_size}
 use Rattle.zone.specs.Changes.{OtherDigit}
 use Rattle.zone.specs.Layouts.{places_of}
 
--- The file is one template 61 with one object 5F1F, a zone, and nothing more. The changed file has another digit at a
--- checked place of the zone, counted from 0 in the zone, and all other bytes are as they were.
+-- The file is one template 61 with one object 5F1F, a zone, and nothing more. The changed file has another digit at one
+-- of the checked places, which is counted from 0 in the zone, and all other bytes are as they were.
 pub record DigitChanged (kind : Kind) (bytes changed : List ℕ) : Type 0 where
   pub value : List ℕ
   pub zone : List ℕ

@@ -62,8 +62,8 @@ value_for purpose.Security r file = Some (security_value r.security)
 abbrev pub written : Record → Files
 written r file = option_map (template file) (value_for (purpose_of file) r file)
 
--- A record that exists: lawful parts for exactly what its profile declares, and no file that is too long. A group's trees
--- start on level 2, those in EF.SOD's object 30 on level 3, and none stands below level 16.
+-- A lawful record: it has the parts that its profile asks for and no others, each of them lawful, and no file that it
+-- writes is too long. A group's trees have the levels 2 to 16, those in EF.SOD's object 30 the levels 3 to 16.
 pub record LawfulRecord (r : Record) : Type 0 where
   pub tags : Order (declared_set r.profile) r.tags
   pub zone : LawfulFields (kind_of r.profile) r.zone
@@ -74,12 +74,12 @@ pub record LawfulRecord (r : Record) : Type 0 where
   pub security : LawfulTrees r.security 14
   pub short : (file : ℕ) → file ≤ 17 → Short (written r file)
 
--- a record writes a card's files: writing gives exactly these, with the same ones absent
+-- the card has each file that the lawful record writes, byte for byte, and no other
 pub record WritesCard (r : Record) (files : Files) : Type 0 where
   pub lawful : LawfulRecord r
   pub exactly : (file : ℕ) → file ≤ 17 → written r file ≡ files file
 
--- a record of this profile writes the files
+-- some record with this profile writes the files
 pub record WrittenUnder (profile : Profile) (files : Files) : Type 0 where
   pub the_record : Record
   pub its_profile : the_record.profile ≡ profile

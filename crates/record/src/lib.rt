@@ -20,8 +20,9 @@ fn common_laws() -> u8
     0
 }
 
-/// No line of a card fails exactly when a record of the profile writes its files, and one record only; no card with one
-/// changed digit at a checked place of the zone is free of failure under any profile.
+/// No line of a card fails where some record of the profile writes its files, which one record alone can; elsewhere
+/// some line does. Where a digit of such a card's zone is replaced by another, at a checked place, a line fails under
+/// every profile.
 fn card_laws() -> u8
     ensures { CardLaws }
 {

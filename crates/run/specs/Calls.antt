@@ -63,7 +63,7 @@ ComesOf (Err refusal) (Err Closed) = ⊥
 ComesOf (Err refusal) (Err (Unread given)) = given ≡ refusal
 
 -- The reads of a judge, from one state of the source to another: it reads the file whole, once, and answers what comes of
--- it. So it answers 6 exactly if one of its reads does, with the bytes of the reads before.
+-- it. So 6 is its answer where a read answers 6, and nowhere else; it comes with the bytes of the reads before.
 pub record JudgeReads {S : Type 0} (outcomes : S → Request → Answer → S → Type 0)
     (file : ℕ) (s : S) (answer : JudgeAnswer) (t : S) : Type 0 where
   pub outcome : WholeAnswer

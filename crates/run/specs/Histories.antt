@@ -46,8 +46,8 @@ pub record JudgesFile (files : Files) (m : Moment) (call : JudgeCall) (m' : Mome
   pub judged : (file : ℕ) → m'.judged file ≡ (file == call.file || m.judged file)
   pub closed : m'.closed ≡ m.closed
 
--- A judge that is refused. Its conditions are tried in this order: no close was accepted, there is such a file, the buffer is
--- long enough, and no read is refused for a lost link. Of the refusals only 6 changes the moment, and then only by the loss.
+-- A judge that is refused. Its conditions are tried in this order: no close was accepted, there is such a file, the
+-- buffer is long enough, and every read is answered. Of the refusals 6 alone changes the moment, and only by the loss.
 pub record RefusesJudge (files : Files) (m : Moment) (call : JudgeCall) (m' : Moment)
     (refusal : JudgeRefusal) : Type 0 where
   pub number : Unless 5 (m.closed ≡ false) (Unless 2 (call.file ≤ 17)

@@ -1,4 +1,4 @@
--- Which number and values belong to each refusal of this crate.
+-- The refusals of this crate, each by its number and the values that come with it.
 use Rattle.card.specs.Refusals.{Refusal, bare, valued}
 use Rattle.source.specs.Numbers.{of_whole}
 use Rattle.run.specs.declared.refusal.JudgeRefusal.{JudgeRefusal}

@@ -19,15 +19,15 @@ NeverClosesClean files = (profile : Profile) (lost lost' : Bool) (events : List 
 
 -- What an accepted close means, over a card's files and under a profile.
 pub record CloseMeans (files : Files) (profile : Profile) (summary : Summary) : Type 0 where
-  -- it says clean exactly when a record of the run's profile writes the files
+  -- it says clean if some record of this profile writes the files, and only then
   pub clean_exactly_when_written : Iff (summary.clean ≡ true) (WrittenUnder profile files)
-  -- its four counts are those that the cases give for these files and this profile
+  -- it counts the lines that follow by the cases from these files under this profile
   pub counts_of_the_cases : Counted files profile summary.tally
-  -- no two different records, of whatever profiles, write these files
+  -- at most one record writes these files, whichever profile it has
   pub written_by_one_record_only : (r other : Record)
       → WritesCard r files → WritesCard other files → r ≡ other
-  -- if a record writes them and one digit at a checked place of their zone becomes another digit, then no close of any
-  -- lawful history over the files so changed, under any profile, says clean
+  -- where a record writes them, replace a digit by another at a checked place of the zone: over the files that result,
+  -- no lawful history has a close that says clean, whatever the profile
   pub changed_digit_never_closes_clean : (r : Record) (changed : Files) → WritesCard r files
       → CardChanged (kind_of r.profile) files changed → NeverClosesClean changed
 
@@ -37,8 +37,8 @@ pub record Promise {S : Type 0} (b : Basis S) (source source' : S) (before after
     : Type 0 where
   -- the steps are the same calls as before, with their answers and buffers
   pub same_calls : SameCalls before after
-  -- no call was refused or went through otherwise than the rules say, each byte of each buffer is what they say, and the
-  -- source was read as they say and not otherwise
+  -- the rules hold of every call: of whether it went through, of its answer, of what it left in each buffer, and of
+  -- which reads it made of the source
   pub lawful_throughout : LawfulRun b source (history before after) source'
   -- told of the link alone, this is a lawful history, and the last moment's link is that of the source handed back
   pub lawful_history : LawfulHistory b.files b.profile (b.lost source) (history before after)

@@ -1,4 +1,4 @@
-//! A run over one source and one profile.
+//! The run: the sheet of one card, read from a source and judged under a profile.
 ghost use Rattle.std.specs.Prelude.{◌≡◌, true, false, IfOk};
 ghost use Rattle.source.specs.Whole.{Ready};
 ghost use Rattle.sheet.specs.Sheets.{Blank};
@@ -26,7 +26,7 @@ impl fmt::Display for Summary {
     }
 }
 
-/// A run over one source and one profile: the sheet, and whether a close was accepted.
+/// A run: the source it reads, the profile it judges by, its sheet, and whether a close was accepted.
 #[derive(Drop)]
 pub struct Run<S> {
     source: S,
@@ -42,7 +42,7 @@ impl<S: Source> Run<S> {
     ghost use Rattle.run.specs.Holding.{Kept, JudgesOn, Asks, Closes};
     ghost use Rattle.run.specs.Promise.{CloseMeans};
 
-    /// A new run: every line open, no file judged, no close accepted.
+    /// A run at its beginning: the sheet is blank, and no close came yet.
     pub fn open(source: S, profile: Profile) -> Run<S>
         ensures source { source_of result ≡ source }
         ensures profile { profile_of result ≡ profile }
@@ -58,7 +58,7 @@ impl<S: Source> Run<S> {
         }
     }
 
-    /// Reads a file whole to the buffer's start, and sets all its lines. Judging a file again is allowed.
+    /// Reads a file whole to the buffer's start, and writes its lines onto the sheet, for the first time or once more.
     pub fn judge(&mut self, file: u8, buffer: &mut [u8]) -> Result<(), JudgeRefusal>
         ensures files { card_of S.files self.new ≡ card_of S.files self.old }
         ensures lasts { S.lost (source_of self.old) ≡ true → S.lost (source_of self.new) ≡ true }
@@ -83,7 +83,7 @@ impl<S: Source> Run<S> {
         Ok(())
     }
 
-    /// The line of a case and a file, also after a close.
+    /// The line of a case and a file, whether the run is closed or not.
     pub fn ask(&self, case: u8, file: u8) -> Result<Line, AskRefusal>
         ensures asks { Asks (sheet_of self.now) (ask_call case file result) }
         ensures lawful { Kept S.files self.now
@@ -95,7 +95,7 @@ impl<S: Source> Run<S> {
             .ok_or(AskRefusal::NoLine { case, file })
     }
 
-    /// Closes the run once every file was judged.
+    /// Closes the run, if no file is left to judge and it is not closed yet.
     pub fn close(&mut self) -> Result<Summary, CloseRefusal>
         ensures source { source_of self.new ≡ source_of self.old }
         ensures profile { profile_of self.new ≡ profile_of self.old }

@@ -1,4 +1,4 @@
-//! Sample cards for programs and tests, as images: for each file its number, its length in two bytes, and the file.
+//! Sample cards for programs and tests, as images: each file stands behind its number and its length.
 //! The zones are the specimens that ICAO Doc 9303 prints for the three layouts.
 #![tactic(auto)]
 

@@ -43,7 +43,7 @@ pub record LowestMissing (picks : ℕ → Bool) (lowest : ℕ) : Type 0 where
   pub missing : picks lowest ≡ false
   pub below : (file : ℕ) → file < lowest → picks file ≡ true
 
--- how many lines pass, fail, are not applicable and are blocked
+-- the lines counted by their state; an open one is in no count
 pub record IsTally (lines : CardLines) (tally : Tally) : Type 0 where
   pub pass : tally.pass ≡ count passing lines
   pub fail : tally.fail ≡ count failing lines

@@ -44,7 +44,7 @@ fn shared_index(case: u8, file: u8) -> Option<usize>
     Some(SHARED_CASES * usize::from(file) + usize::from(case) - 1)
 }
 
-// A table of fixed size, of which one line is set through `&mut self`: no heap, and every line has its place. A line goes by
+// A table of fixed size, of which a method sets one line at a time: no heap, and every line has its place. A line goes by
 // two plain numbers, its case and its file, as callers and C name it.
 /// The lines, and which files they were judged for.
 #[derive(Drop)]
@@ -60,7 +60,7 @@ impl Sheet {
     ghost use Rattle.card.specs.Cases.{lines_by_case};
     ghost use Rattle.sheet.specs.Walks.{still_to_give, walked, ListsCard, Ascends};
 
-    /// A sheet with every line open and no file judged.
+    /// A blank sheet.
     pub fn new() -> Sheet
         ensures { Blank result }
     {
@@ -164,7 +164,7 @@ impl Sheet {
         self.judged.lowest_missing()
     }
 
-    /// How many lines pass, fail, are not applicable and are blocked.
+    /// The lines counted by their state; an open one is in no count.
     pub fn tally(&self) -> Tally
         ensures { IsTally (line_on self.now) result }
     {

@@ -6,7 +6,7 @@ ghost use Rattle.sheet.specs.Tables.{line_count};
 use card::Line;
 use std::fmt;
 
-/// How many lines pass, fail, are not applicable and are blocked.
+/// The lines of a sheet counted by their state; an open one is in no count.
 #[derive(Clone, Copy, Debug, Default, PartialEq, Eq)]
 pub struct Tally {
     pub pass: u8,

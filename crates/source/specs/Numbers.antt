@@ -1,4 +1,4 @@
--- Which number and values belong to each refusal of this crate.
+-- The refusals of this crate, each by its number and the values that come with it.
 use Rattle.card.specs.Refusals.{Refusal, bare, valued}
 use Rattle.source.specs.declared.read.Fault.{Fault}
 use Rattle.source.specs.declared.read.Fault.TheVariants.{Lost, Malformed}

@@ -6,15 +6,15 @@ use Rattle.source.specs.declared.read.Fault.TheVariants.{Lost}
 use Rattle.source.specs.declared.read.Loss.{Loss}
 use Rattle.source.specs.declared.whole.WholeRefusal.TheVariants.{Lost as CutOff}
 
--- the read that is made of a file once so many bytes are there: it stands behind them, and wants the smaller of 255 and
--- what is missing to 32,767
+-- the read that is made of a file once so many bytes are there: it begins behind them, and wants 255 bytes, or all
+-- up to 32,767 if they are fewer
 abbrev pub next_read : ℕ → ℕ → Request
 next_read file have = request file have (min (32767 - have) 255)
 
 -- The reads that are made of a file of which so many bytes are there, what each answered and made of the source, and what
 -- comes of them; `asks` says of the read that is made once so many bytes are there what it may answer and make of the
--- source. Reading ends with the first read that brings no byte, says absent or is refused for a lost link, and otherwise
--- once 32,767 bytes are there.
+-- source. No read follows one that brings nothing, because it answers 0 bytes, says absent or is refused with 6, and
+-- none is made once 32,767 bytes are there.
 pub data ReadsOn {S : Type 0} (asks : ℕ → S → Answer → S → Type 0)
     : ℕ → S → WholeAnswer → S → Type 0 where
   all_there : {s : S} → ReadsOn asks 32767 s (Ok (Some 32767)) s

@@ -38,7 +38,7 @@ ChosenLoss lost lost' (Ok answer) = lost ≡ false
 ChosenLoss lost lost' (Err (Lost loss)) = lost' ≡ true
 ChosenLoss lost lost' (Err Malformed) = lost' ≡ lost
 
--- a buffer that starts with the bytes, and is otherwise as it was
+-- the bytes laid over the start of a buffer
 abbrev pub laid : List ℕ → List ℕ → List ℕ
 laid bs buffer = bs ++ drop (length bs) buffer
 

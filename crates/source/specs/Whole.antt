@@ -15,7 +15,7 @@ WholeAnswer = Result (Option ℕ) WholeRefusal
 abbrev pub Ready : ℕ → List ℕ → Type 0
 Ready file buffer = (file ≤ 17) × (32767 ≤ length buffer)
 
--- the buffer then starts with the file, and is otherwise as it was
+-- the file is laid over the start of the buffer; an absent one leaves the buffer as it was
 abbrev pub BufferHolds : Option (List ℕ) → Option ℕ → List ℕ → List ℕ → Type 0
 BufferHolds None None before after = after ≡ before
 BufferHolds None (Some count) before after = ⊥
@@ -26,8 +26,8 @@ BufferHolds (Some bs) (Some count) before after = (count ≡ length bs) × (afte
 abbrev pub Received : List ℕ → ℕ → Type 0
 Received bs count = (count ≤ length bs) × (count < 32767)
 
--- The outcome of reading a whole file, with the buffer before and after. The bytes received before a refusal stand at the
--- buffer's start.
+-- The outcome of reading a whole file, with the buffer before and after. On a refusal the buffer's start has what was
+-- received until then.
 abbrev pub Wholly : Option (List ℕ) → ℕ → WholeAnswer → List ℕ → List ℕ → Type 0
 Wholly file number (Err refusal) before after =
     Unless 2 (number ≤ 17) (Unless 3 (32767 ≤ length before)

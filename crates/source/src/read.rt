@@ -12,7 +12,7 @@ use thiserror::Error;
 /// How many bytes one read can want at most.
 pub const MOST_WANTED: usize = 255;
 
-/// What is known of a lost link: as yet no more than that it is lost.
+/// What is known of a lost link: no more than that it is lost.
 #[derive(Clone, Copy, Debug, PartialEq, Eq)]
 pub struct Loss;
 
@@ -22,7 +22,7 @@ pub enum Fault {
     /// The link is lost.
     #[error("refusal {n}: the link is lost", n = LOST)]
     Lost(Loss),
-    /// No such file, nothing or too much wanted, or a buffer shorter than that.
+    /// No read that a source may take: see `well_formed`.
     #[error("refusal {n}: the read is malformed", n = MALFORMED_READ)]
     Malformed,
 }
@@ -40,7 +40,7 @@ impl Numbered for Fault {
 
 /// A source of a card's files over a link that can be lost.
 pub trait Source {
-    /// The files by number, each absent or a string of bytes.
+    /// The files of the card, by their numbers.
     ghost files: { Self → Files };
 
     /// Whether the link is lost.
@@ -53,7 +53,7 @@ pub trait Source {
     ghost outcomes: { Self → Request → Answer → Self → Type 0 };
 
     /// Reads at most `wanted` bytes of a file from a place on to the buffer's start: `None` where the card has no such file,
-    /// else how many bytes stand there, 0 at or past the file's end. The source chooses how many, and when its link is lost.
+    /// else how many bytes stand there, 0 where the file has no byte at the place. The source chooses how many, and when its link is lost.
     fn read(
         &mut self,
         file: u8,

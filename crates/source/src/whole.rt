@@ -1,4 +1,4 @@
-//! Reading a whole file from any source, whatever counts it answers and whenever its link is lost.
+//! Reading a whole file, from a source that may answer in small pieces and may lose its link on the way.
 //! A short answer is not the end: reading goes on until nothing comes, the file is absent, or it can have no more bytes.
 ghost use Rattle.std.specs.Prelude.{◌≡◌, ℕ, ◌≤◌, true, length};
 ghost use Rattle.source.specs.Whole.{Ready, Wholly, WholeLoss, WholeNames};

@@ -4,7 +4,7 @@ use image::{Image, ImageRefusal};
 use source::{Source, read_whole};
 use std::test::Fail;
 
-/// Where the first field that breaks starts.
+/// Where the first broken field starts.
 fn broken(bytes: &[u8]) -> Option<usize> {
     let ImageRefusal::Malformed { position } = Image::check(bytes).err()?;
     Some(position)

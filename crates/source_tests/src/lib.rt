@@ -1,10 +1,11 @@
-//! Examples that the sources are run on: the edges of images, chips and changes.
+//! Examples that the sources are run on: the edges of images, chips and changes; and a source to copy (`own`).
 #![tactic(auto)]
 
 #[cfg(test)]
 mod images;
 #[cfg(test)]
 mod links;
+pub mod own;
 #[cfg(test)]
 mod texts;
 

@@ -8,7 +8,7 @@ value_of c =
     if nat_le 48 c && nat_le c 57 then c - 48
     else (if nat_le 65 c && nat_le c 90 then c - 55 else 0)
 
--- the weights 7, 3, 1 repeat
+-- the weights are 7, 3 and 1 in turn
 abbrev pub weights : List ℕ
 weights = 7 ∷ 3 ∷ 1 ∷ []
 

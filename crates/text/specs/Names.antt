@@ -30,8 +30,8 @@ Alone text = (j k l m : ℕ) → Pair text l j → LetterAt text l
 abbrev pub AllFillers : List ℕ → Type 0
 AllFillers text = (k : ℕ) → k < length text → slice_index text k ≡ filler
 
--- All characters are letters and fillers, and the first is a letter. Before the last letter fillers stand alone, except
--- that one pair may stand: of the places where two fillers stand together before some letter there is at most one.
+-- A name is made of letters and fillers and begins with a letter. Up to its last letter two fillers stand together at
+-- one place at most.
 pub record Name (field : List ℕ) : Type 0 where
   pub plain : AllPlain field
   pub first : LetterAt field 0

@@ -1,4 +1,4 @@
-//! Dates: six digits YYMMDD that write an existing day. No century is guessed.
+//! Dates in the form YYMMDD, of a day that is in the calendar. No century is guessed.
 ghost use Rattle.std.specs.Prelude.{◌≡◌, ◌↔◌, IsTrue, MatchOption};
 ghost use Rattle.text.specs.Dates.{two_digits, days_in_month, AreDigits, Date};
 

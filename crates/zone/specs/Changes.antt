@@ -28,7 +28,7 @@ pub record OtherDigit (p : Places) (zone : List ℕ) (i d : ℕ) : Type 0 where
   pub new : Digit d
   pub other : d ≡ slice_index zone i → ⊥
 
--- Where case 20 passes, the composite is not right in the zone with any one digit at a checked place put for another.
+-- Where case 20 passes, the composite is wrong in every zone that differs from this one in one digit at a checked place.
 abbrev pub DigitChangesShow : Places → List ℕ → ZoneLines → Type 0
 DigitChangesShow p template lines = lines.composite ≡ Pass
     → (h : HoldsZone p.len template) (i d : ℕ) → OtherDigit p h.zone i d

@@ -18,13 +18,13 @@ pub record FirstOther (zone : List ℕ) (k : ℕ) : Type 0 where
   pub other : ZoneCharacter (slice_index zone k) → ⊥
   pub before : (j : ℕ) → j < k → ZoneCharacter (slice_index zone j)
 
--- the code of a passport: P (80), then a letter or the filler
+-- the code of a passport: it begins with P (80), and behind that stands any letter or the filler
 pub record PassportCode (field : List ℕ) : Type 0 where
   pub two : length field ≡ 2
   pub first : slice_index_or field 0 0 ≡ 80
   pub second : PlainCharacter (slice_index field 1)
 
--- the code of a card: A (65), C (67) or I (73), then the filler or a letter other than V (86)
+-- the code of a card: it begins with A (65), C (67) or I (73); behind that stands the filler or any letter but V (86)
 pub record CardCode (field : List ℕ) : Type 0 where
   pub two : length field ≡ 2
   pub first : (slice_index field 0 ≡ 65) ⊎ ((slice_index field 0 ≡ 67) ⊎ (slice_index field 0 ≡ 73))
@@ -34,7 +34,7 @@ pub record CardCode (field : List ℕ) : Type 0 where
 abbrev pub Code : Bool → List ℕ → Type 0
 Code passport field = MatchBool passport (PassportCode field) (CardCode field)
 
--- an issuer or a nationality: one to three letters, then fillers to its end
+-- an issuer or a nationality: three letters, or fillers in place of the last or the last two
 pub record State (field : List ℕ) : Type 0 where
   pub three : length field ≡ 3
   pub first : Letter (slice_index field 0)
@@ -46,11 +46,11 @@ pub record State (field : List ℕ) : Type 0 where
 abbrev pub RightDigit : List ℕ → Span → Type 0
 RightDigit zone s = slice_index zone s.end ≡ check_digit_of (part zone s) + 48
 
--- the first character of the number is no filler, and its check digit is right
+-- a number, which does not begin with a filler, with the right check digit behind it
 abbrev pub Number : List ℕ → Span → Type 0
 Number zone s = (slice_index zone s.start ≢ filler) × RightDigit zone s
 
--- a date, and its check digit is right
+-- a date with the right check digit behind it
 abbrev pub Dated : List ℕ → Span → Type 0
 Dated zone s = Date (part zone s) × RightDigit zone s
 

@@ -12,9 +12,8 @@ use Rattle.zone.specs.declared.layout.Span.{Span}
 use Rattle.zone.specs.declared.layout.Places.{Places}
 use Rattle.zone.specs.declared.lines.ZoneLines.{ZoneLines}
 
--- the line of case 19 where the own cases are not judged and the others are this one: not applicable where the layout has no
--- digit
--- for the optional field
+-- the line of case 19 where the own cases are not judged and the others are this one: not applicable where the layout
+-- has no digit for the optional field
 abbrev pub optional_unjudged : Line → Option Span → Line
 optional_unjudged line None = NotApplicable
 optional_unjudged line (Some s) = line
@@ -40,8 +39,8 @@ unjudged_under line p = record {
 abbrev pub zone_unjudged : Line → Profile → ZoneLines
 zone_unjudged line profile = unjudged_under line (layout_of profile)
 
--- Case 19, over a zone that stands at this place: it applies where the optional field has a check digit of its own, and
--- fails at that field.
+-- Case 19, over a zone that stands at this place: it applies where the layout has a check digit for the optional field,
+-- and fails at that field.
 abbrev pub IsOptionalLine : Option Span → ℕ → List ℕ → Line → Type 0
 IsOptionalLine optional place zone line = MatchOption optional (line ≡ NotApplicable)
     (λ s. Says line (Optional zone s) (λ at. at ≡ place + s.start))

@@ -58,7 +58,7 @@ pub(crate) fn is_code(field: &[u8], passport: bool) -> bool
     }
 }
 
-/// Whether the field is an issuer or a nationality: one to three letters, then fillers.
+/// Whether the field is an issuer or a nationality: three letters, or fillers in place of the last or the last two.
 pub(crate) fn is_state(field: &[u8]) -> bool
     ensures { IsTrue result ↔ State field.now }
 {

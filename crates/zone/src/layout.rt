@@ -33,7 +33,7 @@ pub struct Places {
     pub birth: Span,
     pub sex: usize,
     pub expiry: Span,
-    /// The optional field, where it has a check digit of its own.
+    /// The optional field, where a check digit stands behind it.
     pub optional: Option<Span>,
     pub cover: Cover,
     pub composite: usize,

@@ -20,7 +20,7 @@ pub trait Numbered {
 #[derive(Clone, Copy, Debug, PartialEq, Eq, Error)]
 pub enum ProfileRefusal {
     /// The kind is not from 1 to 3, or the declared set lacks DG1 or DG2.
-    #[error("refusal {n}: there is no profile of kind {kind} with the set {declared:04X}", n = NO_PROFILE)]
+    #[error("refusal {n}: there is no profile of kind {kind} with the set {declared:04X}", n = self.number())]
     Unlawful { kind: u8, declared: u16 },
 }
 

@@ -65,13 +65,13 @@ impl Change {
 #[derive(Clone, Copy, Debug, PartialEq, Eq, Error)]
 pub enum ChangeRefusal {
     /// A card has no file of this number.
-    #[error("refusal {n}: there is no file {file}", n = NOT_THERE)]
+    #[error("refusal {n}: there is no file {file}", n = self.number())]
     NoFile { file: u8 },
     /// No file reaches to this place.
-    #[error("refusal {n}: no file has a byte at place {place}", n = NO_PLACE)]
+    #[error("refusal {n}: no file has a byte at place {place}", n = self.number())]
     NoPlace { place: u16 },
     /// The source has as many changes as it takes.
-    #[error("refusal {n}: there are sixteen changes already", n = FULL)]
+    #[error("refusal {n}: there are sixteen changes already", n = self.number())]
     Full,
 }
 

@@ -58,7 +58,7 @@ impl<'a> Iterator for Fields<'a> {
 #[derive(Clone, Copy, Debug, PartialEq, Eq, Error)]
 pub enum ImageRefusal {
     /// Its first broken field starts here.
-    #[error("refusal {n}: the field at {position} breaks", n = MALFORMED_IMAGE)]
+    #[error("refusal {n}: the field at {position} breaks", n = self.number())]
     Malformed { position: usize },
 }
 

@@ -12,7 +12,7 @@ use thiserror::Error;
 #[derive(Clone, Copy, Debug, PartialEq, Eq, Error)]
 pub enum JudgeRefusal {
     /// A close was accepted.
-    #[error("refusal {n}: a close was accepted before", n = CLOSED)]
+    #[error("refusal {n}: a close was accepted before", n = self.number())]
     Closed,
     /// The file is not read whole.
     #[error(transparent)]
@@ -42,7 +42,7 @@ impl Numbered for JudgeRefusal {
 #[derive(Clone, Copy, Debug, PartialEq, Eq, Error)]
 pub enum AskRefusal {
     /// There is no line of this case for this file.
-    #[error("refusal {n}: there is no line of case {case} for file {file}", n = NOT_THERE)]
+    #[error("refusal {n}: there is no line of case {case} for file {file}", n = self.number())]
     NoLine { case: u8, file: u8 },
 }
 
@@ -60,10 +60,10 @@ impl Numbered for AskRefusal {
 #[derive(Clone, Copy, Debug, PartialEq, Eq, Error)]
 pub enum CloseRefusal {
     /// A close was accepted.
-    #[error("refusal {n}: a close was accepted before", n = CLOSED)]
+    #[error("refusal {n}: a close was accepted before", n = self.number())]
     Closed,
     /// A file was not judged; this is the lowest.
-    #[error("refusal {n}: file {file} is not judged", n = UNJUDGED)]
+    #[error("refusal {n}: file {file} is not judged", n = self.number())]
     Unjudged { file: u8 },
 }
 

@@ -20,10 +20,10 @@ pub struct Loss;
 #[derive(Clone, Copy, Debug, PartialEq, Eq, Error)]
 pub enum Fault {
     /// The link is lost.
-    #[error("refusal {n}: the link is lost", n = LOST)]
+    #[error("refusal {n}: the link is lost", n = self.number())]
     Lost(Loss),
     /// No read that a source may take: see `well_formed`.
-    #[error("refusal {n}: the read is malformed", n = MALFORMED_READ)]
+    #[error("refusal {n}: the read is malformed", n = self.number())]
     Malformed,
 }
 

@@ -14,13 +14,13 @@ use thiserror::Error;
 #[derive(Clone, Copy, Debug, PartialEq, Eq, Error)]
 pub enum WholeRefusal {
     /// A card has no file of this number.
-    #[error("refusal {n}: there is no file {file}", n = NOT_THERE)]
+    #[error("refusal {n}: there is no file {file}", n = self.number())]
     NoFile { file: u8 },
     /// The longest file would not fit into a buffer of this size.
-    #[error("refusal {n}: a buffer of {size} bytes is too short", n = SHORT_BUFFER)]
+    #[error("refusal {n}: a buffer of {size} bytes is too short", n = self.number())]
     ShortBuffer { size: usize },
     /// The link is lost; so many bytes of the file stand at the buffer's start.
-    #[error("refusal {n}: the link is lost after {received} bytes", n = LOST)]
+    #[error("refusal {n}: the link is lost after {received} bytes", n = self.number())]
     Lost { received: u16, loss: Loss },
 }
 

@@ -28,8 +28,8 @@ examples/image.sh examples/card | cmp - "$out/clean"
 echo "image.sh made the image of the clean card"
 
 for caller in sheet_c sheet_rs; do
-    for arguments in "3 0003 clean" "1 0003 clean" "3 0003 digit" "3 0003 cut" "4 0003 clean" "3 0003 empty" \
-        "3 0003 long"; do
+    for arguments in "3 0003 clean" "1 0003 clean" "3 0003 digit" "3 0003 cut" "4 0003 clean" "4 0003 cut" \
+        "3 0003 empty" "3 0003 long"; do
         set -- $arguments
         echo "kind $1, set $2, the $3 card:"
         "$out/$caller" "$1" "$2" "$out/$3" 2>&1 || true

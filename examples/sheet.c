@@ -39,16 +39,14 @@ int main(int argc, char **argv) {
         return 2;
     }
 
-    /* suhluva_sheet checks the image too; suhluva_check_image is for whoever only wants to know whether it is one. */
     uint64_t position;
-    uint32_t answer = suhluva_check_image(image, size, &position);
     uint8_t states[SUHLUVA_LINES];
     uint64_t places[SUHLUVA_LINES];
     struct suhluva_counts counts;
-    if (answer == SUHLUVA_DONE) {
-        answer = suhluva_sheet((uint8_t)kind, (uint16_t)declared, image, size, states, places, &counts, &position);
-    }
+    uint32_t answer = suhluva_sheet((uint8_t)kind, (uint16_t)declared, image, size, states, places, &counts, &position);
     if (answer == SUHLUVA_MALFORMED_IMAGE) {
+        /* It wrote the position, too. This is the call for whoever only wants to know whether it is an image. */
+        answer = suhluva_check_image(image, size, &position);
         printf("refusal %" PRIu32 " at %" PRIu64 "\n", answer, position);
         return 1;
     }

@@ -42,13 +42,9 @@ unsafe extern "C" {
 fn sheet(kind: u8, declared: u16, image: &[u8]) -> Result<([(u8, u64); LINES], Counts), (u32, u64)> {
     let (mut states, mut places) = ([0; LINES], [0; LINES]);
     let (mut counts, mut position) = (Counts::default(), 0);
-    // SAFETY: the pointer and the length are those of a slice that lives through the call.
-    let refusal = unsafe { suhluva_check_image(image.as_ptr(), image.len(), &mut position) };
-    if refusal != DONE {
-        return Err((refusal, position));
-    }
-    // SAFETY: as above; what is written are different variables.
-    let refusal = unsafe {
+    // SAFETY: the pointer and the length are those of a slice that lives through the call, and what is written are
+    // different variables.
+    let mut refusal = unsafe {
         suhluva_sheet(
             kind,
             declared,
@@ -60,6 +56,11 @@ fn sheet(kind: u8, declared: u16, image: &[u8]) -> Result<([(u8, u64); LINES], C
             &mut position,
         )
     };
+    if refusal == MALFORMED_IMAGE {
+        // It wrote the position, too. This is the call for whoever only wants to know whether it is an image.
+        // SAFETY: as above.
+        refusal = unsafe { suhluva_check_image(image.as_ptr(), image.len(), &mut position) };
+    }
     if refusal != DONE {
         return Err((refusal, position));
     }
